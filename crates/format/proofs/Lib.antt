@@ -1,0 +1,14 @@
+pub mod Headers
+pub mod Trees
+pub mod Worked
+pub mod Passing
+pub mod Verdicts
+pub mod Saying
+pub mod Logs
+pub mod Order
+pub mod Containers
+pub mod Tiling
+pub mod Standing
+pub mod Strings
+pub mod Exact
+pub mod Refused

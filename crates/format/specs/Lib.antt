@@ -1,0 +1,12 @@
+pub mod Numbers
+pub mod Kinds
+pub mod Header
+pub mod Tree
+pub mod Fields
+pub mod Boxes
+pub mod Allowed
+pub mod Judge
+pub mod Report
+pub mod Tiling
+pub mod Standing
+pub mod Worked

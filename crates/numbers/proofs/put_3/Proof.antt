@@ -1,0 +1,11 @@
+use Rattle.numbers.proofs.Laws.{put-add}
+use borrow.Author.Needs.{needs}
+use Rattle.numbers.proofs.put_3.Statement.{statement}
+use Rattle.numbers.proofs.put_3.Tie as tie
+
+returns : tie.Need-returns
+returns c = put-add 1 2 _ _ _ (c .before .before .before .before .before .before .put-1 .ensures) (c .before .before .put-2 .ensures)
+
+pub put-3-spec : {M : Type 1} → statement M
+put-3-spec =
+    tie.close (tie.spec (λ c κs. search needs) (λ c. search needs) (λ c κs. search needs) (λ c. search needs) returns)

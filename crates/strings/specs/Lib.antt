@@ -1,0 +1,3 @@
+pub mod Same
+pub mod Characters
+pub mod Headers
