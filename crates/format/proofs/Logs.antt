@@ -13,6 +13,7 @@ use Rattle.strings.specs.Headers.{Each}
 use Rattle.strings.proofs.Laws.{same-true, same-false, same-refl}
 use Rattle.format.specs.declared.Kind.{Kind}
 use Rattle.format.specs.declared.Kind.the-variants.{Ohdr, Odda}
+use Rattle.format.specs.declared.PlaintextLength.{PlaintextLength}
 use Rattle.format.specs.Kinds.{sameKind}
 use Rattle.format.specs.Fields.{method, plaintext, contentId, dataLength}
 use Rattle.format.specs.Boxes.{Box, noBox, kind, room, only}
@@ -104,26 +105,26 @@ distinct-fresh ys d = apart-fresh [] ys (λ i j l m. d i j (omega arith) m)
 
 -- ---- one box
 
-data-held : (k : Kind) (n : ℕ) (o f : List ℕ) → wrongData k n o f ≡ false → sameKind k Odda ≡ true
-    → (12 + dataLength f .0 ≤ n) × (agrees (method o) (plaintext o) (dataLength f) ≡ true)
+data-held : (k : Kind) (n m : ℕ) (p : PlaintextLength) (f : List ℕ) → wrongData k n m p f ≡ false → sameKind k Odda ≡ true
+    → (12 + dataLength f .0 ≤ n) × (agrees m p (dataLength f) ≡ true)
 unfolding wrongData
-data-held k n o f e t =
-    let p = either-false (ltb n (12 + dataLength f .0)) _ (under (sameKind k Odda) _ e t) in
-    (ltb-false n _ (p .0), not-false _ (p .1))
+data-held k n m p f e t =
+    let q = either-false (ltb n (12 + dataLength f .0)) _ (under (sameKind k Odda) _ e t) in
+    (ltb-false n _ (q .0), not-false _ (q .1))
 
-held-data : (k : Kind) (n : ℕ) (o f : List ℕ) → (sameKind k Odda ≡ true → 12 + dataLength f .0 ≤ n)
-    → (sameKind k Odda ≡ true → agrees (method o) (plaintext o) (dataLength f) ≡ true) → wrongData k n o f ≡ false
+held-data : (k : Kind) (n m : ℕ) (p : PlaintextLength) (f : List ℕ) → (sameKind k Odda ≡ true → 12 + dataLength f .0 ≤ n)
+    → (sameKind k Odda ≡ true → agrees m p (dataLength f) ≡ true) → wrongData k n m p f ≡ false
 unfolding wrongData
-held-data k n o f a b = under-all (sameKind k Odda) _ (λ t. false-either _ _ (le-ltb n _ (a t)) (rw (b t)))
+held-data k n m p f a b = under-all (sameKind k Odda) _ (λ t. false-either _ _ (le-ltb n _ (a t)) (rw (b t)))
 
 fine-tested : (cap : ℕ) (log : List Box) (x : Box) → Fine cap log x → Tested (kind x) (room x) (x .fields)
 fine-tested cap log x f = record {
   whole = f .whole;
   old = f .old;
-  method = f .method;
+  method = f .methods;
   lengths = f .lengths;
   headers = f .headers;
-  held = λ t. data-held (kind x) (room x) (lastOhdr log) (x .fields) (f .lengths-agree) t .0;
+  held = λ t. data-held (kind x) (room x) (method (lastOhdr log)) (plaintext (lastOhdr log)) (x .fields) (f .lengths-agree) t .0;
 }
 
 -- ---- the whole list
@@ -150,7 +151,7 @@ clear-fielded cap log (x ∷ xs) c =
 clear-agreed : (cap : ℕ) (log xs : List Box) → Clear cap log xs → Agreed (lastOf noBox (only Ohdr log)) xs
 clear-agreed cap log [] c = tt
 clear-agreed cap log (x ∷ xs) c = (
-  λ t. data-held (kind x) (room x) (lastOhdr log) (x .fields) (c .0 .lengths-agree) t .1,
+  λ t. data-held (kind x) (room x) (method (lastOhdr log)) (plaintext (lastOhdr log)) (x .fields) (c .0 .lengths-agree) t .1,
   rw (last-snoc log x) at (clear-agreed cap (log ++ (x ∷ [])) xs (c .1)),
 )
 
@@ -207,10 +208,10 @@ clear-after cap log (x ∷ xs) l e a f =
         row = lt-leb cap (length log) (omega arith);
         whole = t .whole;
         old = t .old;
-        method = t .method;
+        methods = t .method;
         lengths = t .lengths;
         headers = t .headers;
-        lengths-agree = held-data (kind x) (room x) (lastOhdr log) (x .fields) (t .held) (a .0);
+        lengths-agree = held-data (kind x) (room x) (method (lastOhdr log)) (plaintext (lastOhdr log)) (x .fields) (t .held) (a .0);
         fresh = s .0;
       },
       clear-after cap (log ++ (x ∷ [])) xs (omega arith) (e .1) (rw (last-snoc log x) (a .1)) (rw (ids-snoc log x) (s .1)),

@@ -40,10 +40,10 @@ pub record Fine (cap : ℕ) (log : List Box) (x : Box) : Type 0 where
   pub row : leb cap (length log) ≡ false
   pub whole : cut (kind x) (room x) (x .fields) ≡ false
   pub old : newer (kind x) (x .fields) ≡ false
-  pub method : wrongMethod (kind x) (x .fields) ≡ false
+  pub methods : wrongMethod (kind x) (x .fields) ≡ false
   pub lengths : wrongLength (kind x) (x .fields) ≡ false
   pub headers : malformed (kind x) (x .fields) ≡ false
-  pub lengths-agree : wrongData (kind x) (room x) (lastOhdr log) (x .fields) ≡ false
+  pub lengths-agree : wrongData (kind x) (room x) (method (lastOhdr log)) (plaintext (lastOhdr log)) (x .fields) ≡ false
   pub fresh : again (kind x) (ids log) (x .fields) ≡ false
 
 abbrev pub Clear : ℕ → List Box → List Box → Type 0

@@ -17,6 +17,7 @@ use Rattle.format.specs.Numbers.{numberOf, ruleOf}
 use Rattle.format.specs.Kinds.{inside}
 use Rattle.format.specs.Header.{tooFew, sizeWrong, pastEnd, headerFault}
 use Rattle.format.specs.Tree.{Run, end, bad, leaf, node, encode, kindAt, Good, parse}
+use Rattle.format.specs.Fields.{method, plaintext}
 use Rattle.format.specs.Boxes.{Box, top, kind, room, boxOf, into}
 use Rattle.format.specs.Judge.{nothing, note, noRow, misplaced, missing, cut, newer, wrongMethod, wrongLength, malformed, wrongData, again, ids, lastOhdr, wrong, Out, fault, done, unless, andThen, judge, readOf}
 use Rattle.format.specs.Report.{refusedBy, answerOf}
@@ -41,7 +42,7 @@ wrong-most rows n log x =
     (most (wrongMethod (kind x) (x .fields)) 9 _ (omega arith)
     (most (wrongLength (kind x) (x .fields)) 10 _ (omega arith)
     (most (malformed (kind x) (x .fields)) 11 _ (omega arith)
-    (most (wrongData (kind x) (room x) (lastOhdr log) (x .fields)) 12 _ (omega arith)
+    (most (wrongData (kind x) (room x) (method (lastOhdr log)) (plaintext (lastOhdr log)) (x .fields)) 12 _ (omega arith)
     (most (again (kind x) (ids log) (x .fields)) 13 0 (omega arith) (omega arith)))))))))
 
 some : (n : ℕ) → (n ≡ 0 → ⊥) → 1 ≤ n

@@ -14,6 +14,7 @@ use Rattle.format.specs.declared.Spot.{Spot}
 use Rattle.format.specs.declared.Kind.the-variants.{Odrm}
 use Rattle.format.specs.Kinds.{sameKind}
 use Rattle.format.specs.Tree.{Run, end, bad, leaf, node, encode}
+use Rattle.format.specs.Fields.{method, plaintext}
 use Rattle.format.specs.Boxes.{Box, kind, room, boxOf, into, boxes}
 use Rattle.format.specs.Allowed.{types}
 use Rattle.format.specs.Judge.{nothing, note, noRow, misplaced, missing, cut, newer, wrongMethod, wrongLength, malformed, wrongData, again, ids, lastOhdr, wrong, placeOf, Out, fault, done, unless, andThen, judge}
@@ -31,16 +32,16 @@ wrong-none cap n log x e =
     let f = pick-zero (wrongMethod (kind x) (x .fields)) 8 _ (d .1) in
     let g = pick-zero (wrongLength (kind x) (x .fields)) 9 _ (f .1) in
     let h = pick-zero (malformed (kind x) (x .fields)) 10 _ (g .1) in
-    let i = pick-zero (wrongData (kind x) (room x) (lastOhdr log) (x .fields)) 11 _ (h .1) in
+    let i = pick-zero (wrongData (kind x) (room x) (method (lastOhdr log)) (plaintext (lastOhdr log)) (x .fields)) 11 _ (h .1) in
     let j = pick-zero (again (kind x) (ids log) (x .fields)) 12 _ (i .1) in
     let r = either-false (leb cap (length log)) _ (a .0) in (
       (r .1, b .0),
-      record { row = r .0; whole = c .0; old = d .0; method = f .0; lengths = g .0; headers = h .0; lengths-agree = i .0; fresh = j .0 },
+      record { row = r .0; whole = c .0; old = d .0; methods = f .0; lengths = g .0; headers = h .0; lengths-agree = i .0; fresh = j .0 },
     )
 
 none-wrong : (cap : ℕ) (n : Seen) (log : List Box) (x : Box) → Fit (x .place) n (kind x) → Fine cap log x → wrong cap n log x ≡ 0
 unfolding wrong noRow
-none-wrong cap n log x p f = rw (f .row, p .0, p .1, f .whole, f .old, f .method, f .lengths, f .headers, f .lengths-agree, f .fresh)
+none-wrong cap n log x p f = rw (f .row, p .0, p .1, f .whole, f .old, f .methods, f .lengths, f .headers, f .lengths-agree, f .fresh)
 
 unless-done : (k place : ℕ) (o : Out) (l : List Box) → unless k place o ≡ done l → (k ≡ 0) × (o ≡ done l)
 unless-done k place o l = go (eqb k 0) refl

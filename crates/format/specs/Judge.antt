@@ -117,7 +117,7 @@ wrongLength k f = either (both (sameKind k Odhe) (outside 255 (typeLength f))) (
 unfoldable pub malformed : Kind → List ℕ → Bool
 malformed k f = both (sameKind k Ohdr) (not (textual (textualHeaders f)))
 
--- 12: D longer than odda's rest, or not as the method wants; o is the container's ohdr, the last before the odda
+-- 12: D longer than odda's rest, or not as above; m and p are its container's method and plaintext length
 unfoldable pub agrees : ℕ → PlaintextLength → DataLength → Bool
 agrees m p d =
     either (eqb (d .0) 0)
@@ -125,8 +125,8 @@ agrees m p d =
     (either (both (eqb m 1) (eqb (d .0) (16 + 16 * (p .0 / 16 + 1))))
     (both (eqb m 2) (eqb (d .0) (16 + p .0)))))
 
-unfoldable pub wrongData : Kind → ℕ → List ℕ → List ℕ → Bool
-wrongData k n o f = both (sameKind k Odda) (either (ltb n (12 + dataLength f .0)) (not (agrees (method o) (plaintext o) (dataLength f))))
+unfoldable pub wrongData : Kind → ℕ → ℕ → PlaintextLength → List ℕ → Bool
+wrongData k n m p f = both (sameKind k Odda) (either (ltb n (12 + dataLength f .0)) (not (agrees m p (dataLength f))))
 
 -- 13: ContentID equal to an earlier container's
 abbrev pub among : List ℕ → List (List ℕ) → Bool
@@ -145,6 +145,7 @@ abbrev pub lastOf : Box → List Box → Box
 lastOf d [] = d
 lastOf d (x ∷ xs) = lastOf x xs
 
+-- the fields of a container's ohdr, the last before its odda
 abbrev pub lastOhdr : List Box → List ℕ
 lastOhdr log = lastOf noBox (only Ohdr log) .fields
 
@@ -158,7 +159,7 @@ wrong cap n log x =
     (pick (wrongMethod (kind x) (x .fields)) 9
     (pick (wrongLength (kind x) (x .fields)) 10
     (pick (malformed (kind x) (x .fields)) 11
-    (pick (wrongData (kind x) (room x) (lastOhdr log) (x .fields)) 12
+    (pick (wrongData (kind x) (room x) (method (lastOhdr log)) (plaintext (lastOhdr log)) (x .fields)) 12
     (pick (again (kind x) (ids log) (x .fields)) 13 0))))))))
 
 -- the place of a fault in a box: the box's offset

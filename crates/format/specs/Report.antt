@@ -123,15 +123,15 @@ freeTotal (x ∷ xs) = pick (isFree x) (x .size) 0 + freeTotal xs
 
 -- offset of mdri, 0 if none
 abbrev pub mdriAt : List Box → ℕ
-mdriAt log = getD (only Mdri log) 0 noBox .at
+mdriAt log = lastOf noBox (only Mdri log) .at
 
--- the TransactionID: after an odtt's version and flags
-abbrev pub idAfter : List Box → ℕ
-idAfter [] = 0
-idAfter (x ∷ xs) = x .at + x .skip + 4
+-- offset of the TransactionID, after an odtt's version and flags, 0 if none
+abbrev pub transactionAfter : ℕ → List Box → ℕ
+transactionAfter n [] = n
+transactionAfter n (x ∷ xs) = transactionAfter (x .at + x .skip + 4) xs
 
 abbrev pub transactionAt : List Box → ℕ
-transactionAt log = idAfter (only Odtt log)
+transactionAt log = transactionAfter 0 (only Odtt log)
 
 -- ---- the answer: when refused, all but the refusal is 0
 
