@@ -1,4 +1,5 @@
 pub mod Headers
+pub mod Slices
 pub mod Trees
 pub mod Worked
 pub mod Passing

@@ -113,37 +113,9 @@ same-kind j k e = sym (numbered j) ∙ ap (λ (n : ℕ). getD listed n Other) (e
 
 -- ---- the same for each name
 
-pub kind-ftyp : (c : Place) → kindOf c FTYP ≡ Ftyp
-unfolding kindOf
-kind-ftyp c = refl
-
-pub kind-odrm : (c : Place) → kindOf c ODRM ≡ Odrm
-unfolding kindOf
-kind-odrm c = refl
-
-pub kind-odhe : (c : Place) → kindOf c ODHE ≡ Odhe
-unfolding kindOf
-kind-odhe c = refl
-
-pub kind-ohdr : (c : Place) → kindOf c OHDR ≡ Ohdr
-unfolding kindOf
-kind-ohdr c = refl
-
-pub kind-odda : (c : Place) → kindOf c ODDA ≡ Odda
-unfolding kindOf
-kind-odda c = refl
-
-pub kind-mdri : (c : Place) → kindOf c MDRI ≡ Mdri
-unfolding kindOf
-kind-mdri c = refl
-
 pub is-ftyp : (c : Place) (t : ℕ) → sameKind (kindOf c t) Ftyp ≡ true → t ≡ FTYP
 unfolding kindNumber
 is-ftyp c = is-named ftyp (omega arith)
-
-pub is-odrm : (c : Place) (t : ℕ) → sameKind (kindOf c t) Odrm ≡ true → t ≡ ODRM
-unfolding kindNumber
-is-odrm c = is-named odrm (omega arith)
 
 pub is-odhe : (c : Place) (t : ℕ) → sameKind (kindOf c t) Odhe ≡ true → t ≡ ODHE
 unfolding kindNumber
@@ -157,21 +129,9 @@ pub is-odda : (c : Place) (t : ℕ) → sameKind (kindOf c t) Odda ≡ true → 
 unfolding kindNumber
 is-odda c = is-named odda (omega arith)
 
-pub is-mdri : (c : Place) (t : ℕ) → sameKind (kindOf c t) Mdri ≡ true → t ≡ MDRI
-unfolding kindNumber
-is-mdri c = is-named mdri (omega arith)
-
-pub is-odtt : (t : ℕ) → sameKind (kindOf InMdri t) Odtt ≡ true → t ≡ ODTT
-unfolding kindNumber
-is-odtt = is-named odtt (omega arith)
-
 pub is-udta : (t : ℕ) → sameKind (kindOf InOdhe t) Udta ≡ true → t ≡ UDTA
 unfolding kindNumber
 is-udta = is-named udta (omega arith)
-
-pub same-odrm : (c : Place) (t : ℕ) → sameKind (kindOf c t) Odrm ≡ eqb t ODRM
-unfolding kindNumber
-same-odrm c = same-named odrm (omega arith)
 
 pub same-odtt : (t : ℕ) → sameKind (kindOf InMdri t) Odtt ≡ eqb t ODTT
 unfolding kindNumber

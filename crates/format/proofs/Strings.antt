@@ -5,7 +5,7 @@ use native.Mathlib.Omega.{arith}
 use mathlib.Core.Bool.{Bool, true, false}
 use mathlib.Core.List.{List, [], _∷_, map}
 use lib.ListN.{length, take, drop}
-use lib.Seq.{slice, length-slice, length-take-le, take-take, drop-drop, take-add, drop-at}
+use lib.Seq.{slice, length-slice, take-take}
 use Rattle.numbers.specs.Choice.{pick, true-not-false}
 use Rattle.strings.specs.Headers.{Each}
 use Rattle.format.specs.declared.Place.the-variants.{Top}
@@ -19,23 +19,10 @@ use Rattle.format.specs.Allowed.{Says, Fielded}
 use Rattle.format.specs.Report.{stretch, bytesIn}
 use Rattle.format.specs.Standing.{bodyIn, Stands, HeaderStands}
 use Rattle.format.proofs.Headers.{fields-take}
+use Rattle.format.proofs.Slices.{slice-slice}
 use Rattle.format.proofs.Order.{same-kind}
 use Rattle.format.proofs.Containers.{Sound, only-odhe, only-ohdr, only-odda}
 use Rattle.format.proofs.Standing.{file-stands}
-
--- a part of a part
-slice-drop : (a e k : ℕ) (s : List ℕ) → drop k (slice a e s) ≡ slice (a + k) e s
-slice-drop a e k s = drop-drop k a (take e s)
-
-take-slice : (a e n : ℕ) (s : List ℕ) → a + n ≤ e → e ≤ length s → take n (slice a e s) ≡ slice a (a + n) s
-take-slice a e n s l m =
-    let t : List ℕ = take e s in
-    let lt : length t ≡ e = length-take-le e s m in
-    let la : length (take a t) ≡ a = length-take-le a t (omega arith) in
-    sym (drop-at (take a t) (take n (drop a t)) a la) ∙ ap (drop a) (sym (take-add a n t)) ∙ ap (drop a) (take-take (a + n) e s l)
-
-slice-slice : (a e k n : ℕ) (s : List ℕ) → a + (k + n) ≤ e → e ≤ length s → slice k (k + n) (slice a e s) ≡ slice (a + k) (a + (k + n)) s
-slice-slice a e k n s l m = ap (drop k) (take-slice a e (k + n) s l m) ∙ slice-drop a (a + (k + n)) k s
 
 -- n bytes of the fields from byte k on stand in the file
 fields-stand : (s : List ℕ) (x : Box) (k n : ℕ) → Stands s x → Fielded x → k + n ≤ fieldsLength (kind x) (x .fields)
