@@ -1,0 +1,4 @@
+pub mod Tags
+pub mod Order
+pub mod Heads
+pub mod Laws
