@@ -1,14 +1,14 @@
 -- A header is read from its own bytes, fields from theirs; a right header cuts its box off, and a box cut off has a right header.
 -- Assumes nothing.
-use mathlib.Core.Path.{_≡_, refl, sym, ap, ap₂, _∙_}
-use Prim.Native.Nat.{ℕ, zero, suc, _+_, _-_, _≤_, _<_}
+use mathlib.Core.Path.{_≡_, refl, sym, ap, _∙_}
+use Prim.Native.Nat.{ℕ, _+_, _-_, _≤_}
 use native.Mathlib.Omega.{arith}
 use mathlib.Core.Bool.{Bool, true, false}
-use mathlib.Core.List.{List, [], _∷_, _++_}
+use mathlib.Core.List.{List, _++_}
 use lib.ListN.{length, take, drop, length-append, length-drop, take-append-drop}
 use lib.Seq.{take-at, drop-at, length-take-le, drop-drop}
 use lib.Dec.{ltb, eqb}
-use borrow.Author.Tests.{le-ltb, ltb-false, ne-eqb, eq-eqb, eqb-true, eqb-false}
+use borrow.Author.Tests.{le-ltb, ltb-false, ne-eqb, eq-eqb, eqb-true}
 use Rattle.numbers.specs.Choice.{pick, both, either, pick-by, pick-zero, either-false, true-not-false}
 use Rattle.numbers.specs.Big.{num}
 use Rattle.numbers.proofs.Laws.{num-append, num-take}
@@ -81,7 +81,7 @@ pub record Cut (c : Place) (s h b r : List ℕ) : Type 0 where
   pub rest : restOf c s ≡ r
 
 -- an odda's header is long, so the test for one in short form fails
-not-short : (t n : ℕ) → (t ≡ ODDA → n ≡ 16) → both (eqb t ODDA) (eqb n 8) ≡ false
+pub not-short : (t n : ℕ) → (t ≡ ODDA → n ≡ 16) → both (eqb t ODDA) (eqb n 8) ≡ false
 not-short t n f = go (eqb t ODDA) refl
   where
     go : (b : Bool) → eqb t ODDA ≡ b → both b (eqb n 8) ≡ false

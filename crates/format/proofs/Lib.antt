@@ -2,6 +2,7 @@ pub mod Headers
 pub mod Slices
 pub mod Trees
 pub mod Worked
+pub mod Vectors
 pub mod Passing
 pub mod Verdicts
 pub mod Saying

@@ -2,15 +2,15 @@
 use mathlib.Core.Path.{_≡_, refl, sym, ap, _∙_}
 use Prim.Native.Nat.{ℕ, zero, suc, _+_, _≤_, _<_}
 use native.Mathlib.Omega.{arith}
-use mathlib.Core.Bool.{Bool, true, false, not}
+use mathlib.Core.Bool.{Bool, true, false}
 use mathlib.Core.List.{List, [], _∷_, _++_, append-assoc, append-nil, map}
 use lib.ListN.{length, getD, length-append, List·getD-append}
-use lib.Dec.{leb, ltb}
+use lib.Dec.{ltb}
 use borrow.Author.Tests.{leb-false, lt-leb, ltb-false, le-ltb, not-false}
-use Rattle.numbers.specs.Choice.{pick, both, either, either-false, true-not-false}
+use Rattle.numbers.specs.Choice.{pick, both, either-false}
 use Rattle.strings.specs.Same.{same}
 use Rattle.strings.specs.Headers.{Each}
-use Rattle.strings.proofs.Laws.{same-true, same-false, same-refl}
+use Rattle.strings.proofs.Laws.{same-true, same-false}
 use Rattle.format.specs.declared.Kind.{Kind}
 use Rattle.format.specs.declared.Kind.the-variants.{Ohdr, Odda}
 use Rattle.format.specs.declared.PlaintextLength.{PlaintextLength}

@@ -1,5 +1,5 @@
 -- A refused file has one number, from 1 to 13, and one place, and 0 for all else that is reported. Assumes nothing.
-use mathlib.Core.Path.{_≡_, refl, sym, ap, _∙_}
+use mathlib.Core.Path.{_≡_, refl}
 use Prim.Native.Nat.{ℕ, zero, suc, _+_, _≤_}
 use native.Mathlib.Omega.{arith}
 use mathlib.Core.Bool.{Bool, true, false}
@@ -77,12 +77,12 @@ judge-fault rows c q n at log (bad j s) k p g e =
     (omega (arith, some j (g .2)), omega (arith, header-most c s, g .1))
 judge-fault rows c q n at log (leaf h b r) k p g e =
     let x : Box = boxOf q at h (length b) b in
-    unless-fault (wrong rows n log x) at k p _ (wrong-most rows n log x) e
+    unless-fault (wrong rows n log x) _ k p _ (wrong-most rows n log x) e
     (judge-fault rows c q (note n (kind x)) (at + (length h + length b)) (log ++ (x ∷ [])) r k p (g .2))
 judge-fault rows c q n at log (node h f i r) k p g e =
     let m : ℕ = length f + length (encode i) in
     let x : Box = boxOf q at h m f in
-    unless-fault (wrong rows n log x) at k p _ (wrong-most rows n log x) e
+    unless-fault (wrong rows n log x) _ k p _ (wrong-most rows n log x) e
     (λ e. then-fault (judge rows (into q x) nothing (at + (length h + length f)) (log ++ (x ∷ [])) i) _ k p
     (judge-fault rows (inside (kindAt c h)) (into q x) nothing (at + (length h + length f)) (log ++ (x ∷ [])) i k p (g .2))
     (λ l. judge-fault rows c q (note n (kind x)) (at + (length h + m)) l r k p (g .3)) e)

@@ -1,23 +1,21 @@
 -- What the reader tests of a box's fields is what the paper says of them, kind by kind. Assumes nothing.
-use mathlib.Core.Path.{_≡_, refl, sym, ap, _∙_}
+use mathlib.Core.Path.{_≡_, refl, sym}
 use mathlib.Core.Logic.{_⊎_, inl, inr}
-use Prim.Native.Nat.{ℕ, _+_, _*_, _/_, _%_, _≤_, _<_}
-use native.Mathlib.Omega.{arith}
+use Prim.Native.Nat.{ℕ, _+_, _*_, _/_, _≤_}
 use mathlib.Core.Bool.{Bool, true, false, not}
 use mathlib.Core.List.{List}
 use lib.Dec.{ltb, eqb}
-use borrow.Author.Tests.{ltb-false, le-ltb, eqb-true, eq-eqb, not-true, not-false}
-use Rattle.numbers.specs.Choice.{pick, both, either, both-true, either-false, true-not-false}
-use Rattle.strings.specs.Headers.{textual, Textual}
+use borrow.Author.Tests.{ltb-false, le-ltb, eqb-true, eq-eqb, not-false}
+use Rattle.numbers.specs.Choice.{both, either, both-true, either-false, true-not-false}
 use Rattle.strings.proofs.Laws.{textual-good, good-textual}
 use Rattle.format.specs.declared.Kind.{Kind}
 use Rattle.format.specs.declared.Kind.the-variants.{Ftyp, Odrm, Odhe, Ohdr, Odda, Mdri, Odtt, Odrb, Udta, Other}
 use Rattle.format.specs.declared.PlaintextLength.{PlaintextLength}
 use Rattle.format.specs.declared.DataLength.{DataLength}
-use Rattle.format.specs.Kinds.{ODCF, fieldsLength, kindNumber, sameKind}
-use Rattle.format.specs.Fields.{version, majorBrand, typeLength, method, padding, plaintext, idLength, textualHeaders, dataLength}
+use Rattle.format.specs.Kinds.{fieldsLength, kindNumber, sameKind}
+use Rattle.format.specs.Fields.{typeLength, method, dataLength}
 use Rattle.format.specs.Allowed.{MethodTakes, LengthsAgree, Says}
-use Rattle.format.specs.Judge.{ragged, cut, newer, takes, wrongMethod, outside, wrongLength, malformed, agrees, wrongData}
+use Rattle.format.specs.Judge.{ragged, cut, newer, takes, wrongMethod, outside, wrongLength, malformed, agrees}
 
 -- ---- tests
 

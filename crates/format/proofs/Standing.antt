@@ -1,18 +1,17 @@
 -- The boxes of a good tree stand in its bytes. Assumes nothing.
 use mathlib.Core.Path.{_≡_, refl, sym, ap, _∙_}
-use Prim.Native.Nat.{ℕ, _+_, _-_, _≤_, _<_}
+use Prim.Native.Nat.{ℕ, _+_, _≤_}
 use native.Mathlib.Omega.{arith}
-use mathlib.Core.List.{List, [], _∷_, _++_, append-assoc, append-nil}
+use mathlib.Core.List.{List, [], _++_, append-assoc, append-nil}
 use lib.ListN.{length, take, drop, length-append}
-use lib.Seq.{slice, take-at, drop-at, take-length, take-append-le, length-take-le}
+use lib.Seq.{slice, take-at, drop-at}
 use Rattle.strings.specs.Headers.{Each}
 use Rattle.format.specs.declared.Place.{Place}
 use Rattle.format.specs.declared.Spot.{Spot}
 use Rattle.format.specs.Kinds.{fieldsLength, inside}
-use Rattle.format.specs.Header.{headerLength, sizeOf, typeOf}
 use Rattle.format.specs.Tree.{Run, end, bad, leaf, node, encode, kindAt, Headed, Good}
-use Rattle.format.specs.Boxes.{Box, kind, boxOf, into, boxes}
-use Rattle.format.specs.Standing.{bodyIn, Stands}
+use Rattle.format.specs.Boxes.{Box, boxOf, into, boxes}
+use Rattle.format.specs.Standing.{Stands}
 use Rattle.format.proofs.Headers.{at-least-eight, header-length, header-size, header-type, fields-append}
 use Rattle.format.proofs.Tiling.{each-append, node-fields}
 

@@ -1,12 +1,12 @@
 -- The stretches that are reported hold the bytes of the fields: strings are where the summaries say. Assumes nothing.
 use mathlib.Core.Path.{_≡_, refl, sym, ap, _∙_, subst}
-use Prim.Native.Nat.{ℕ, _+_, _-_, _≤_, _<_}
+use Prim.Native.Nat.{ℕ, _+_, _≤_}
 use native.Mathlib.Omega.{arith}
 use mathlib.Core.Bool.{Bool, true, false}
 use mathlib.Core.List.{List, [], _∷_, map}
-use lib.ListN.{length, take, drop}
+use lib.ListN.{length, drop}
 use lib.Seq.{slice, length-slice, take-take}
-use Rattle.numbers.specs.Choice.{pick, true-not-false}
+use Rattle.numbers.specs.Choice.{pick}
 use Rattle.strings.specs.Headers.{Each}
 use Rattle.format.specs.declared.Place.the-variants.{Top}
 use Rattle.format.specs.declared.Kind.{Kind}
@@ -78,7 +78,7 @@ held-only s k (x ∷ xs) a b = go (sameKind (kind x) k) refl (held-only s k xs (
     go true e rest = (record { stands = a .0; fielded = b .0; of = same-kind (kind x) k e }, rest)
     go false e rest = rest
 
-each-of : (P : Box → Type 0) (f : Container → Box) (cs : List Container) → Each P (map f cs) → Each (λ c. P (f c)) cs
+pub each-of : (P : Box → Type 0) (f : Container → Box) (cs : List Container) → Each P (map f cs) → Each (λ c. P (f c)) cs
 each-of P f [] a = tt
 each-of P f (c ∷ cs) a = (a .0, each-of P f cs (a .1))
 

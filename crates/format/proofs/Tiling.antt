@@ -1,14 +1,14 @@
 -- The boxes of a good tree, filled and with fields that fit, are tiled. Assumes nothing.
 use mathlib.Core.Path.{_≡_, refl, sym, ap, _∙_}
 use mathlib.Core.Logic.{_⊎_, inl, inr}
-use Prim.Native.Nat.{ℕ, zero, suc, _+_, _-_, _≤_, _<_}
+use Prim.Native.Nat.{ℕ, _+_, _≤_, _<_}
 use native.Mathlib.Nat.{zero-add}
 use native.Mathlib.Omega.{arith}
 use mathlib.Core.Bool.{Bool, true, false}
 use mathlib.Core.List.{List, [], _∷_, _++_, append-assoc, append-nil}
-use lib.ListN.{length, take, length-append}
-use lib.Seq.{take-length, take-all}
-use lib.Dec.{leb, ltb, eqb}
+use lib.ListN.{length, length-append}
+use lib.Seq.{take-length}
+use lib.Dec.{leb, eqb}
 use borrow.Author.Tests.{eq-eqb, ne-eqb, le-leb, lt-leb, lt-ltb, le-ltb, leb-false}
 use Rattle.numbers.specs.Choice.{pick, both, true-not-false}
 use Rattle.strings.specs.Headers.{Each}
@@ -18,7 +18,7 @@ use Rattle.format.specs.declared.Kind.{Kind}
 use Rattle.format.specs.declared.Spot.{Spot}
 use Rattle.format.specs.Kinds.{fieldsLength, holdsRun, inside}
 use Rattle.format.specs.Tree.{Run, end, bad, leaf, node, encode, kindAt, opens, Good}
-use Rattle.format.specs.Boxes.{Box, top, kind, room, boxOf, into, boxes, start}
+use Rattle.format.specs.Boxes.{Box, top, kind, boxOf, into, boxes, start}
 use Rattle.format.specs.Allowed.{Filled, Fielded}
 use Rattle.format.specs.Tiling.{Tiles, level, isIn, childrenOf, Tiled}
 use Rattle.format.proofs.Headers.{at-least-eight, fields-take}

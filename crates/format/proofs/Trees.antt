@@ -1,18 +1,18 @@
 -- Every list of bytes is the bytes of exactly one good tree: parse finds it. Assumes nothing.
 use mathlib.Core.Path.{_≡_, refl, sym, ap, ap₂, _∙_}
-use Prim.Native.Nat.{ℕ, zero, suc, _+_, _-_, _≤_, _<_}
+use Prim.Native.Nat.{ℕ, zero, suc, _+_, _≤_}
 use native.Mathlib.Omega.{arith}
-use mathlib.Core.Bool.{Bool, true, false}
+use mathlib.Core.Bool.{true, false}
 use mathlib.Core.List.{List, [], _∷_, _++_, append-assoc}
 use lib.ListN.{length, take, drop, length-append, length-drop, take-append-drop}
 use lib.Seq.{take-at, drop-at, length-take-le}
-use lib.Dec.{leb, eqb}
+use lib.Dec.{eqb}
 use borrow.Author.Tests.{leb-true, le-leb, ne-eqb, eqb-true, eqb-false}
-use Rattle.numbers.specs.Choice.{pick, both, pick-by, both-true}
+use Rattle.numbers.specs.Choice.{pick-by, both-true}
 use Rattle.format.specs.declared.Place.{Place}
 use Rattle.format.specs.declared.Kind.{Kind}
 use Rattle.format.specs.Kinds.{fieldsLength, holdsRun, inside}
-use Rattle.format.specs.Header.{headerLength, sizeOf, typeOf, headerFault}
+use Rattle.format.specs.Header.{headerFault}
 use Rattle.format.specs.Tree.{Run, end, bad, leaf, node, encode, kindAt, opens, Headed, Good, headOf, bodyOf, restOf, grow, parse}
 use Rattle.format.proofs.Headers.{at-least-eight, fields-append, fields-take, Cut, cut-good, Sliced, good-cut}
 

@@ -1,23 +1,21 @@
 -- A run is judged well just if its types pass the scan, its inner runs do, and every box is fine after those before it.
 -- Assumes nothing.
 use mathlib.Core.Path.{_≡_, refl, sym, ap, _∙_}
-use Prim.Native.Nat.{ℕ, _+_, _≤_, _<_}
+use Prim.Native.Nat.{ℕ, _+_}
 use native.Mathlib.Omega.{arith}
 use mathlib.Core.Bool.{Bool, true, false}
 use mathlib.Core.List.{List, [], _∷_, _++_, append-assoc, append-nil}
 use lib.ListN.{length}
 use lib.Dec.{leb, eqb}
 use borrow.Author.Tests.{eqb-true}
-use Rattle.numbers.specs.Choice.{pick, both, either, pick-by, pick-zero, either-false}
+use Rattle.numbers.specs.Choice.{pick, pick-by, pick-zero, either-false}
 use Rattle.format.specs.declared.Seen.{Seen}
 use Rattle.format.specs.declared.Spot.{Spot}
-use Rattle.format.specs.declared.Kind.the-variants.{Odrm}
-use Rattle.format.specs.Kinds.{sameKind}
 use Rattle.format.specs.Tree.{Run, end, bad, leaf, node, encode}
 use Rattle.format.specs.Fields.{method, plaintext}
 use Rattle.format.specs.Boxes.{Box, kind, room, boxOf, into, boxes}
 use Rattle.format.specs.Allowed.{types}
-use Rattle.format.specs.Judge.{nothing, note, noRow, misplaced, missing, cut, newer, wrongMethod, wrongLength, malformed, wrongData, again, ids, lastOhdr, wrong, placeOf, Out, fault, done, unless, andThen, judge}
+use Rattle.format.specs.Judge.{nothing, note, noRow, misplaced, missing, cut, newer, wrongMethod, wrongLength, malformed, wrongData, again, ids, lastOhdr, wrong, Out, fault, done, unless, andThen, judge}
 use Rattle.format.proofs.Passing.{Fit, Scanned, Nested, Fine, Clear}
 
 -- ---- one box
@@ -85,14 +83,14 @@ judge-passed cap q n at log end l e =
 judge-passed cap q n at log (bad k s) l e = let z : _≡_ {A = ℕ} 0 1 = cc in absurd (omega arith)
 judge-passed cap q n at log (leaf h b r) l e =
     let x : Box = boxOf q at h (length b) b in
-    let s = unless-done (wrong cap n log x) at _ l e in
+    let s = unless-done (wrong cap n log x) _ _ l e in
     let w = wrong-none cap n log x (s .0) in
     let i = judge-passed cap q (note n (kind x)) (at + (length h + length b)) (log ++ (x ∷ [])) r l (s .1) in
     record { scanned = (w .0, i .scanned); nested = i .nested; clear = (w .1, i .clear); all = i .all ∙ append-assoc log (x ∷ []) (boxes q (at + (length h + length b)) r) }
 judge-passed cap q n at log (node h f k r) l e =
     let m : ℕ = length f + length (encode k) in
     let x : Box = boxOf q at h m f in
-    let s = unless-done (wrong cap n log x) at _ l e in
+    let s = unless-done (wrong cap n log x) _ _ l e in
     let w = wrong-none cap n log x (s .0) in
     let t = then-done _ _ l (s .1) in
     let i = judge-passed cap (into q x) nothing (at + (length h + length f)) (log ++ (x ∷ [])) k (t .0) (t .1) in

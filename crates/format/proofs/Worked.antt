@@ -1,5 +1,5 @@
 -- The worked files of document 01, computed. Assumes nothing.
-use mathlib.Core.Path.{_≡_, refl}
+use mathlib.Core.Path.{refl}
 use Rattle.numbers.specs.Big.{num, be}
 use Rattle.strings.specs.Same.{same}
 use Rattle.strings.specs.Characters.{token}

@@ -1,7 +1,6 @@
 -- Reading (document 01, Numbers given back): 1, then the boxes in file order, a parent before its run; at each box 2 to 13 in number
 -- order; the first fault is the answer. Assumes nothing.
-use mathlib.Core.Path.{_≡_}
-use Prim.Native.Nat.{ℕ, _+_, _-_, _*_, _/_, _%_}
+use Prim.Native.Nat.{ℕ, _+_, _*_, _/_, _%_}
 use mathlib.Core.Bool.{Bool, true, false, not}
 use mathlib.Core.List.{List, [], _∷_, _++_, map}
 use lib.ListN.{length}
@@ -18,7 +17,7 @@ use Rattle.format.specs.declared.Spot.{Spot}
 use Rattle.format.specs.declared.PlaintextLength.{PlaintextLength}
 use Rattle.format.specs.declared.DataLength.{DataLength}
 use Rattle.format.specs.Kinds.{ODCF, fieldsLength, sameKind, isSix}
-use Rattle.format.specs.Tree.{Run, end, bad, leaf, node, encode, kindAt, parse}
+use Rattle.format.specs.Tree.{Run, end, bad, leaf, node, encode, parse}
 use Rattle.format.specs.Fields.{version, majorBrand, typeLength, method, padding, plaintext, idLength, contentId, textualHeaders, dataLength}
 use Rattle.format.specs.Boxes.{Box, noBox, top, kind, room, boxOf, into, only}
 

@@ -10,3 +10,4 @@ pub mod Report
 pub mod Tiling
 pub mod Standing
 pub mod Worked
+pub mod Vectors

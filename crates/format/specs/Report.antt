@@ -7,17 +7,14 @@ use lib.ListN.{length, drop, getD, replicate}
 use lib.Seq.{slice}
 use lib.Dec.{eqb}
 use Rattle.numbers.specs.Choice.{pick, both, either}
-use Rattle.format.specs.declared.Rule.{Rule}
 use Rattle.format.specs.declared.Rule.the-variants.{Done}
 use Rattle.format.specs.declared.Place.{Place}
 use Rattle.format.specs.declared.Place.the-variants.{Top, InOdrm, InOdhe, InOhdr, InMdri}
-use Rattle.format.specs.declared.Kind.{Kind}
 use Rattle.format.specs.declared.Kind.the-variants.{Odrm, Odhe, Ohdr, Odda, Mdri, Odtt, Odrb}
 use Rattle.format.specs.declared.Row.{Row}
 use Rattle.format.specs.declared.Full.{Full}
 use Rattle.format.specs.declared.Stretch.{Stretch}
 use Rattle.format.specs.declared.Summary.{Summary}
-use Rattle.format.specs.declared.Refusal.{Refusal}
 use Rattle.format.specs.declared.Reading.{Reading}
 use Rattle.format.specs.Numbers.{ruleOf}
 use Rattle.format.specs.Kinds.{FREE, SKIP}

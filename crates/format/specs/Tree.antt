@@ -4,10 +4,10 @@
 use mathlib.Core.Path.{_≡_}
 use Prim.Native.Nat.{ℕ, zero, suc, _+_, _-_}
 use mathlib.Core.Bool.{Bool, true, false}
-use mathlib.Core.List.{List, [], _∷_, _++_}
+use mathlib.Core.List.{List, [], _++_}
 use lib.ListN.{length, take, drop}
 use lib.Dec.{leb, eqb}
-use Rattle.numbers.specs.Choice.{pick, both, either}
+use Rattle.numbers.specs.Choice.{pick, both}
 use Rattle.format.specs.declared.Place.{Place}
 use Rattle.format.specs.declared.Kind.{Kind}
 use Rattle.format.specs.Kinds.{ODDA, kindOf, fieldsLength, holdsRun, inside}

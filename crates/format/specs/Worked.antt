@@ -1,8 +1,9 @@
 -- The worked files of document 01, in one table under one claim. Assumes nothing.
-use mathlib.Core.Path.{_≡_, refl}
+use mathlib.Core.Path.{_≡_}
 use Prim.Native.Nat.{ℕ, zero, suc}
-use mathlib.Core.Bool.{Bool, true, false}
-use mathlib.Core.List.{List, [], _∷_, _++_, map}
+use mathlib.Core.Bool.{Bool}
+use mathlib.Core.List.{List, [], _∷_, _++_}
+use lib.ListN.{length}
 use lib.Seq.{sets}
 use Rattle.numbers.specs.Choice.{pick}
 use Rattle.numbers.specs.Big.{be}
@@ -13,7 +14,7 @@ use Rattle.format.specs.declared.Stretch.{Stretch}
 use Rattle.format.specs.declared.Reading.{Reading}
 use Rattle.format.specs.declared.PlaintextLength.{PlaintextLength}
 use Rattle.format.specs.Judge.{Out, fault, done, agrees, readOf}
-use Rattle.format.specs.Report.{rows, eight, acceptedAs}
+use Rattle.format.specs.Report.{rows, eight, acceptedAs, answerOf, Lesson, lessonOf}
 
 -- File A: method 0, type a/b, ContentID cid:x, other strings empty, P = D = 4, R = 40; its data is 1, 2, 3, 4
 abbrev pub fileA : List ℕ
@@ -35,11 +36,17 @@ fileB = sets fileA 121 (be 4 0)
 
 pub data Case : Type 0 where
   reading : List ℕ → Case  -- a file, read with 256 rows
+  answering : List ℕ → Case  -- a file, read with 256 rows: the answer, refused or not
+  within : ℕ → List ℕ → Case  -- a file, read with this many rows: how many of them it takes
+  holding : List ℕ → Case  -- a file, read with 256 rows: what the reading in the sense of demand 3 holds
   wanting : ℕ → PlaintextLength → Case  -- which data lengths below 256 a method takes with a plaintext length
 
 pub data Outcome : Type 0 where
   refused : ℕ → ℕ → Outcome
   listed : Reading → List Row → Outcome
+  answered : Reading → Outcome
+  counted : ℕ → Outcome
+  held : Lesson → Outcome
   taken : List ℕ → Outcome
 
 abbrev pub upTo : ℕ → List ℕ
@@ -54,15 +61,26 @@ abbrev pub told : Out → Outcome
 told (fault k place) = refused k place
 told (done log) = listed (acceptedAs log) (rows log)
 
+abbrev pub toldCount : Out → Outcome
+toldCount (fault k place) = refused k place
+toldCount (done log) = counted (length log)
+
+abbrev pub toldLesson : List ℕ → Out → Outcome
+toldLesson s (fault k place) = refused k place
+toldLesson s (done log) = held (lessonOf s log)
+
 abbrev pub outcome : Case → Outcome
 outcome (reading s) = told (readOf 256 s)
+outcome (answering s) = answered (answerOf (readOf 256 s))
+outcome (within cap s) = toldCount (readOf cap s)
+outcome (holding s) = toldLesson s (readOf 256 s)
 outcome (wanting m p) = taken (keep (λ d. agrees m p (record { 0 = d })) (upTo 256))
 
 pub record Line : Type 0 where
   pub case : Case
   pub comes : Outcome
 
-abbrev row : ℕ → ℕ → ℕ → ℕ → Row
+abbrev pub row : ℕ → ℕ → ℕ → ℕ → Row
 row a n d t = record { offset = a; size = n; depth = d; boxtype = t }
 
 abbrev cbc : ℕ → Case
@@ -71,7 +89,7 @@ cbc p = wanting 1 (record { 0 = p })
 abbrev ctr : ℕ → Case
 ctr p = wanting 2 (record { 0 = p })
 
-abbrev at : ℕ → ℕ → Stretch
+abbrev pub at : ℕ → ℕ → Stretch
 at a n = record { offset = a; length = n }
 
 abbrev full : Row → Full

@@ -1,0 +1,4 @@
+pub mod Below
+pub mod Answers
+pub mod Copies
+pub mod Rooms
