@@ -1,10 +1,10 @@
-pub mod Numbers
-pub mod Kinds
 pub mod Header
 pub mod Tree
+pub mod Kinds
 pub mod Fields
 pub mod Boxes
 pub mod Allowed
+pub mod Numbers
 pub mod Judge
 pub mod Report
 pub mod Tiling

@@ -1,23 +1,22 @@
 -- What the bytes say of a full box that stands in them, and of a container: its header, its fields and where the next box is. Assumes nothing.
 use mathlib.Core.Path.{_≡_, sym, ap, _∙_}
-use Prim.Native.Nat.{ℕ, suc, _+_, _-_, _≤_, _<_}
-use native.Mathlib.Numerals.{add-one}
+use Prim.Native.Nat.{ℕ, _+_, _-_, _≤_}
 use native.Mathlib.Omega.{arith}
-use mathlib.Core.List.{List, _++_, map}
-use lib.ListN.{length, getD, take, drop, set, replicate, length-drop, length-map, List·getD-map}
-use lib.Seq.{slice, length-slice, length-take-le, take-length, take-all, take-suc, append-snoc, set-at}
+use mathlib.Core.List.{List}
+use lib.ListN.{length, drop, length-drop}
+use lib.Seq.{slice, length-slice, length-take-le, take-length}
 use borrow.Author.Tests.{le-ltb}
 use Rattle.numbers.specs.Big.{num}
 use Rattle.numbers.proofs.Laws.{num-take, num-slice}
 use Rattle.format.specs.declared.Place.{Place}
 use Rattle.format.specs.declared.Kind.{Kind}
 use Rattle.format.specs.declared.Kind.the-variants.{Odrm, Odhe, Ohdr, Odda}
-use Rattle.format.specs.Kinds.{fieldsLength}
-use Rattle.format.specs.Header.{sizeOf, headerFault}
 use Rattle.format.specs.declared.Stretch.{Stretch}
 use Rattle.format.specs.declared.Summary.{Summary}
+use Rattle.format.specs.Kinds.{fieldsLength}
+use Rattle.format.specs.Header.{sizeOf, headerFault}
 use Rattle.format.specs.Boxes.{Box, kind, room, start, Container}
-use Rattle.format.specs.Report.{summaryOf, noSummary, eight}
+use Rattle.format.specs.Report.{summaryOf}
 use Rattle.format.specs.Standing.{bodyIn}
 use Rattle.format.proofs.Headers.{not-short, fields-take}
 use Rattle.boxes.specs.declared.Head.{Head}
@@ -25,7 +24,7 @@ use Rattle.boxes.specs.Head.{headIn}
 use Rattle.summaries.specs.declared.Opened.{Opened}
 use Rattle.summaries.specs.declared.Four.{Four}
 use Rattle.summaries.specs.declared.CommonHeaders.{CommonHeaders}
-use Rattle.summaries.specs.Contained.{Opens, Contained, noContainer, Listed}
+use Rattle.summaries.specs.Contained.{Opens, Contained}
 use Rattle.summaries.specs.Parts.{openedOf, Opening, fourOf, headersEnd, headersIn, ContentIn}
 
 -- a header that was read is the box's
@@ -43,7 +42,8 @@ module _ {s : List ℕ} {k : Kind} {at depth : ℕ} {x : Box} (o : Opens s k at 
 
   -- the fields are those of the bytes after the header
   same-fields : fieldsLength k (x .fields) ≡ fieldsLength (kind x) (bodyIn s x)
-  same-fields = ap (λ (j : Kind). fieldsLength j (x .fields)) (sym (o .of)) ∙ ap (fieldsLength (kind x)) (o .stands .fields) ∙ fields-take (kind x) (bodyIn s x)
+  same-fields =
+      rw (← o .of) (ap (fieldsLength (kind x)) (o .stands .fields) ∙ fields-take (kind x) (bodyIn s x))
 
   fit : fieldsLength k (x .fields) ≤ room x
   fit = rw (← o .of) (o .fielded .fit)
@@ -58,17 +58,17 @@ module _ {s : List ℕ} {k : Kind} {at depth : ℕ} {x : Box} (o : Opens s k at 
       ap length (o .stands .fields) ∙ length-take-le F (bodyIn s x) (omega (arith, same-fields, body-length, fit)) ∙ sym same-fields
 
   -- where the run starts
-  pub starts : start x ≡ x .at + x .skip + fieldsLength k (x .fields)
+  starts : start x ≡ x .at + x .skip + fieldsLength k (x .fields)
   starts = omega (arith, fields-length)
 
   -- a number of the fields, in the bytes
-  pub field : (j i : ℕ) → i + j ≤ fieldsLength k (x .fields) → num j (x .fields) i ≡ num j s (x .at + x .skip + i)
+  field : (j i : ℕ) → i + j ≤ fieldsLength k (x .fields) → num j (x .fields) i ≡ num j s (x .at + x .skip + i)
   field j i l =
       ap (λ (f : List ℕ). num j f i) (o .stands .fields)
       ∙ num-take j (fieldsLength (kind x) (bodyIn s x)) (bodyIn s x) i (omega (arith, same-fields))
       ∙ num-slice j s (x .at + x .skip) (x .at + x .size) i (omega (arith, fields-end))
 
-  -- the header breaks no rule in any run that the box fits in
+  -- the header breaks no rule, taken up to the end of s: by today's rules a size does not depend on how many bytes are left
   fine : headerFault (x .place) (drop (x .at) s) ≡ 0
   unfolding headerFault sizeOf
   fine =
@@ -219,38 +219,3 @@ module _ {s : List ℕ} {at : ℕ} {c : Container} (h : Contained s at c) where
         e2,
         e1,
       )
-
--- ---- the array of eight
-
-filled : (i : ℕ) (ss : List Summary) → i ≤ length ss → eight (take i ss) ≡ take i ss ++ replicate (8 - i) noSummary
-filled i ss l = rw (length-take-le i ss l)
-
-stored : (i : ℕ) (ss : List Summary) (d : Summary) → i < length ss → length ss ≤ 8 → set (eight (take i ss)) i (getD ss i d) ≡ eight (take (i + 1) ss)
-stored i ss d l m =
-    let k : 8 - i ≡ suc (7 - i) = omega arith in
-    let j : 8 - suc i ≡ 7 - i = omega arith in
-    rw (filled i ss (omega arith), k)
-    (set-at (take i ss) noSummary (replicate (7 - i) noSummary) (getD ss i d) i (length-take-le i ss (omega arith))
-    ∙ rw (add-one, filled (suc i) ss (omega arith), j, take-suc ss i d l)
-    (sym (append-snoc (take i ss) (getD ss i d) (replicate (7 - i) noSummary))))
-
--- what stands after i summaries
-abbrev pub Stored : List ℕ → List ℕ → ℕ → List Summary → ℕ → Type 0
-Stored s starts n all i = (cs : List Container) → Listed s starts n cs → all ≡ eight (take i (map summaryOf cs))
-
-pub none-stored : (s starts : List ℕ) (n : ℕ) {z : Summary} → z ≡ noSummary → Stored s starts n (replicate 8 z) 0
-none-stored s starts n e = λ cs l. rw e
-
-pub one-stored : {s starts : List ℕ} {n i : ℕ} {all : List Summary} {v : Summary} → n ≤ 8 → i < n
-    → ((c : Container) → Contained s (getD starts i 0) c → v ≡ summaryOf c) → Stored s starts n all i → Stored s starts n (set all i v) (i + 1)
-one-stored {i = i} m k e a = λ cs l.
-    let ss : List Summary = map summaryOf cs in
-    let len : length ss ≡ length cs = length-map cs summaryOf in
-    rw (a cs l, e (getD cs i noContainer) (l .each i k), ← List·getD-map summaryOf cs i noContainer)
-    (stored i ss (summaryOf noContainer) (omega (arith, len, l .count)) (omega (arith, len, l .count)))
-
-pub all-stored : {s starts : List ℕ} {n i : ℕ} {all : List Summary} → n ≤ i → Stored s starts n all i
-    → (cs : List Container) → Listed s starts n cs → all ≡ eight (map summaryOf cs)
-all-stored {i = i} k a cs l =
-    let ss : List Summary = map summaryOf cs in
-    a cs l ∙ ap eight (take-all i ss (omega (arith, length-map cs summaryOf, l .count)))

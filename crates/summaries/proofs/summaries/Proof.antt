@@ -2,7 +2,7 @@
 use borrow.Author.Needs.{needs}
 use Prim.Native.Nat.{_≤_, _-_}
 use native.Mathlib.Omega.{arith}
-use Rattle.summaries.proofs.Laws.{Stored, none-stored, one-stored, all-stored}
+use Rattle.summaries.proofs.Filling.{Stored, none-stored, one-stored, all-stored}
 use Rattle.summaries.proofs.summaries.Statement.{statement}
 use Rattle.summaries.proofs.summaries.Tie as tie
 
