@@ -1,0 +1,3 @@
+pub mod FoundRows
+pub mod Laws
+pub mod Over
