@@ -145,7 +145,7 @@ accepted {s} {cap} {r} {out} a d = go (readOf cap s) refl
       few = let p = reported cap s l e in omega (arith, ap length (p .boxes-of), p .allowed .few);
     }
 
-length-flat : (l : List Box) → length (flat l) ≡ length l * 4
+pub length-flat : (l : List Box) → length (flat l) ≡ length l * 4
 length-flat [] = refl
 length-flat (x ∷ l) = omega (arith, length-flat l)
 

@@ -1,0 +1,4 @@
+pub mod Laws
+pub mod Calls
+pub mod Sizes
+pub mod Worked
