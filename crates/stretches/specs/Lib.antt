@@ -1,0 +1,4 @@
+pub mod Given
+pub mod Content
+pub mod Header
+pub mod Rights
