@@ -1,4 +1,6 @@
 // Headers and kinds: how a header is decoded, which kind a box has in its place, and which box may stand where in a run.
+#![tactic(auto)]
+
 ghost use Rattle.std.specs.Prelude.{◌≡◌, ◌≤◌, ◌<◌, length};
 ghost use Rattle.std.proofs.Math.Seq.{slice};
 ghost use Rattle.format.specs.declared.Place.{Place};

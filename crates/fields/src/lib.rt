@@ -1,4 +1,6 @@
 // A checker of the fields for each kind: the first of the numbers 7 to 12 that the bytes after a header break, or 0.
+#![tactic(auto)]
+
 ghost use Rattle.std.specs.Prelude.{◌≡◌, ℕ, ◌≤◌, length};
 ghost use Rattle.numbers.specs.Read.{Read};
 ghost use Rattle.format.specs.declared.Kind.{Kind};

@@ -1,4 +1,6 @@
 // The numbers given back, and what a reading gives: rows, summaries and totals. The definitions of reading stand in specs/.
+#![tactic(auto)]
+
 ghost use Rattle.std.specs.Prelude.{◌≡◌};
 ghost use Rattle.format.specs.Numbers.{number_of};
 

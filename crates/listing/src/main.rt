@@ -1,4 +1,6 @@
 // Prints the listing of the file on standard input.
+#![tactic(auto)]
+
 ghost use Rattle.text.specs.Put.{Laid};
 ghost use Rattle.text.specs.Text.{file_text};
 ghost use Rattle.listing.specs.Printed.{printed};

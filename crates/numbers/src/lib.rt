@@ -1,4 +1,6 @@
 // Big-endian numbers of 1, 2, 3, 4 and 8 bytes, read from a slice and written into one.
+#![tactic(auto)]
+
 ghost use Rattle.std.specs.Prelude.{◌≡◌, ◌+◌, ◌≤◌, length};
 ghost use Rattle.std.proofs.lemmas.List.Edits.{sets};
 ghost use Rattle.numbers.specs.Big.{be};

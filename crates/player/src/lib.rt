@@ -1,4 +1,6 @@
 // The players' side: reading for firmware written in C, over numbers and byte slices. include/dcf.h names the bytes of an answer.
+#![tactic(auto)]
+
 ghost use Rattle.std.specs.Prelude.{◌≡◌, [], ◌∷◌, ◌++◌, ◌+◌, ◌*◌, ◌≤◌, length, take};
 ghost use Rattle.reading.specs.Answer.{Answered};
 ghost use Rattle.player.specs.Layout.{full_numbers, fulls_numbers, method_numbers, stretch_numbers, stretches_numbers, summary_numbers, summaries_numbers, count_numbers};

@@ -1,4 +1,6 @@
 // Reading a DCF held whole in a lent slice: the walk's verdict as an answer by value, and rows in lent room once the file is accepted.
+#![tactic(auto)]
+
 ghost use Rattle.std.specs.Prelude.{◌≡◌, ◌++◌, ◌≤◌, length, take, drop};
 ghost use Rattle.format.specs.Numbers.{rule_of};
 ghost use Rattle.format.specs.Judge.{read_of};

@@ -1,4 +1,6 @@
 // Reading into a lent slice of row structs: the core yields the answer and the rows by value, and one thin function stores the rows.
+#![tactic(auto)]
+
 ghost use Rattle.std.specs.Prelude.{◌≡◌, ◌+◌, ◌*◌, ◌≤◌, min, length};
 ghost use Rattle.format.specs.Judge.{read_of};
 ghost use Rattle.rows.specs.Finding.{row_at, rows_from, filled, find_of, over, ReadRows};

@@ -1,5 +1,7 @@
 // Stretches of a file that a caller is handed: content, the value of a textual header, a rights object's data.
 // Each is a part of the caller's own slice, empty where the call is refused; a companion call has the number.
+#![tactic(auto)]
+
 ghost use Rattle.std.specs.Prelude.{◌≡◌};
 ghost use Rattle.format.specs.Numbers.{number_of};
 ghost use Rattle.format.specs.Judge.{read_of};

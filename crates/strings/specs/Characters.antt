@@ -1,6 +1,6 @@
 -- RFC 2616, 2.2: a token character is any US-ASCII character that is no control character and no separator.
 -- Document 01: ASCII letters are matched in either case. Assumes nothing.
-use Rattle.std.specs.Prelude.{ℕ, ◌+◌, Bool, true, false, not, List, [], ◌∷◌, map, leb, ltb, eqb}
+use Rattle.std.specs.Prelude.{ℕ, ◌+◌, Bool, false, not, List, [], ◌∷◌, map, leb, ltb, eqb}
 use Rattle.numbers.specs.Choice.{pick, both, either}
 use Rattle.strings.specs.Same.{same}
 

@@ -1,4 +1,6 @@
 // Stretches of bytes: equality, token characters, ASCII letters in either case, textual headers.
+#![tactic(auto)]
+
 ghost use Rattle.std.specs.Prelude.{◌≡◌, Bool, ◌+◌, drop};
 ghost use Rattle.strings.specs.Same.{same};
 ghost use Rattle.strings.specs.Characters.{token, lower, same_name};
@@ -38,6 +40,7 @@ pub fn is_same(x: &[u8], y: &[u8]) -> bool
 }
 
 // Whether a byte is a token character of RFC 2616, 2.2.
+#[tactic(auto, unfolding(crate::specs::Characters::token))]
 pub fn is_token(x: u8) -> bool
     ensures { result ≡ token x }
 {
@@ -48,6 +51,7 @@ pub fn is_token(x: u8) -> bool
 }
 
 // An upper-case ASCII letter as its lower-case one, every other byte as itself.
+#[tactic(auto, unfolding(crate::specs::Characters::lower))]
 pub fn to_lower(x: u8) -> u8
     ensures { result ≡ lower x }
 {
@@ -75,6 +79,7 @@ pub fn is_same_name(x: &[u8], y: &[u8]) -> bool
 }
 
 // The part of an entry that comes after the byte `x` in the part `p`.
+#[tactic(auto, unfolding(crate::specs::Headers::next))]
 fn step(p: Part, x: u8) -> Part
     ensures { result ≡ next p x }
 {

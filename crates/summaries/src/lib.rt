@@ -1,4 +1,6 @@
 // Container summaries of an accepted file (document 01, Numbers given back), each made from the offset of its odrm alone.
+#![tactic(auto)]
+
 ghost use Rattle.std.specs.Prelude.{◌≡◌, ◌+◌, ◌≤◌, List, map, length};
 ghost use Rattle.format.specs.Boxes.{Container};
 ghost use Rattle.format.specs.Report.{no_summary, summary_of, eight};

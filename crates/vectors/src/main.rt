@@ -1,5 +1,7 @@
 // Reads files and prints what reading answers. The arguments are pairs: a file's name, and in three digits how many rows are lent.
 // tests/vectors.py writes the files, the arguments and what has to be printed.
+#![tactic(auto)]
+
 ghost use Rattle.std.specs.Prelude.{◌≤◌};
 
 use format::Reading;

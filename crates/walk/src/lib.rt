@@ -1,5 +1,7 @@
 // The walk over a run of boxes and the walk over one box, which call each other. They know no kind: what a header, a kind, a place and
 // fields mean is asked of the layers below.
+#![tactic(auto)]
+
 ghost use Rattle.std.specs.Prelude.{◌≡◌, Bool, ◌+◌, ◌*◌, ◌≤◌, ◌<◌, length, []};
 ghost use Rattle.numbers.specs.Choice.{pick};
 ghost use Rattle.format.specs.Kinds.{fields_length};
