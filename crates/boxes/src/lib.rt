@@ -30,7 +30,7 @@ const ODRB: usize = 0x6f647262;
 const UDTA: usize = 0x75647461;
 
 // A header: the number that it breaks (2, 3 or 4), or 0 and the box's size, the header's own length and the type.
-#[derive(Drop)]
+#[derive(Clone, Copy)]
 pub struct Head {
     pub number: usize,
     pub size: usize,

@@ -12,7 +12,8 @@ use Rattle.numbers.specs.Choice.{pick}
 use Rattle.strings.specs.Headers.{Each}
 use Rattle.format.specs.declared.Place.{Place}
 use Rattle.format.specs.declared.Place.TheVariants.{Top}
-use Rattle.format.specs.Tree.{Run, end, bad, leaf, node, encode, Good, parse}
+use Rattle.format.specs.Kinds.{inside}
+use Rattle.format.specs.Tree.{Run, end, bad, leaf, node, encode, kind_at, Good, parse}
 use Rattle.format.specs.Fields.{content_id}
 use Rattle.format.specs.Boxes.{Box, no_box, top, boxes, Container, containers}
 use Rattle.format.specs.Allowed.{types, Filled, Agreeing, id_of, Allowed}
@@ -37,13 +38,13 @@ nested-filled : (c : Place) (t : Run) → Nested c t → Filled c t
 nested-filled c end n = tt
 nested-filled c (bad k s) n = n
 nested-filled c (leaf h b r) n = nested-filled c r n
-nested-filled c (node h f k r) n = (scanned-ordered _ (types k) n.0, nested-filled _ k n.1, nested-filled c r n.2)
+nested-filled c (node h f k r) n = (scanned-ordered _ (types k) n.0, nested-filled (inside (kind_at c h)) k n.1, nested-filled c r n.2)
 
 filled-nested : (c : Place) (t : Run) → Filled c t → Nested c t
 filled-nested c end n = tt
 filled-nested c (bad k s) n = n
 filled-nested c (leaf h b r) n = filled-nested c r n
-filled-nested c (node h f k r) n = (ordered-scanned _ (types k) n.0, filled-nested _ k n.1, filled-nested c r n.2)
+filled-nested c (node h f k r) n = (ordered-scanned _ (types k) n.0, filled-nested (inside (kind_at c h)) k n.1, filled-nested c r n.2)
 
 -- ---- ContentIDs, of the boxes and of the containers
 

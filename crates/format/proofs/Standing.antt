@@ -1,5 +1,5 @@
 -- The boxes of a good tree stand in its bytes. Assumes nothing.
-use mathlib.Core.Path.{◌≡◌, refl, sym, ap, ◌∙◌}
+use mathlib.Core.Path.{◌≡◌, refl, sym, subst, ap, ◌∙◌}
 use Prim.Native.Nat.{ℕ, ◌+◌, ◌≤◌}
 use native.Mathlib.Omega.{arith}
 use mathlib.Core.List.{List, [], ◌++◌, append_assoc, append-nil}
@@ -54,7 +54,7 @@ stands c q at (leaf h b r) pre post p g l =
     let l2 : length (pre ++ (h ++ b)) ≡ at' = simp length-append (omega arith) in
     let a : length h + length b ≤ length (h ++ (b ++ encode r)) = simp length-append (omega arith) in
     let z : length (h ++ (b ++ encode r)) ≤ length (h ++ (b ++ (encode r ++ post))) = simp length-append (omega arith) in
-    rw s1 (
+    subst (λ (s : List ℕ). Each (Stands s) (boxes q at (leaf h b r))) (sym s1) (
       one-stands c q at (length b) (length (h ++ (b ++ encode r))) pre h b b (encode r ++ post) p l refl g.0 a z refl,
       rw s2 at (stands c q at' r (pre ++ (h ++ b)) post p g.2 l2),
     )
@@ -77,7 +77,7 @@ stands c q at (node h f k r) pre post p g l =
     let fb : fields_length (kind_at q.place h) b ≡ length f = fields-append (kind_at q.place h) f (encode k) (omega arith) ∙ fl in
     let fe : x.fields ≡ take (fields_length (kind_at q.place h) b) b =
     node-fields q at m h f fl ∙ sym (rw fb (take_at f (encode k) (length f) refl)) in
-    rw s1 (
+    subst (λ (s : List ℕ). Each (Stands s) (boxes q at (node h f k r))) (sym s1) (
       one-stands c q at m (length (h ++ (f ++ (encode k ++ encode r)))) pre h b f (encode r ++ post) p l lb g.0 a z fe,
       each_append (Stands S) (boxes (into q x) s k) (boxes q at' r)
           (rw s2 at (stands (inside (kind_at c h)) (into q x) s k (pre ++ (h ++ f)) (encode r ++ post) (rw p) g.2 l2))

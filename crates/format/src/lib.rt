@@ -5,7 +5,7 @@ ghost use Rattle.std.specs.Prelude.{◌≡◌};
 ghost use Rattle.format.specs.Numbers.{number_of};
 
 // The broken rule (document 01, Numbers given back); number_of has the paper's number of each.
-#[derive(Drop)]
+#[derive(Clone, Copy)]
 pub enum Rule {
     Done,
     FileTooLong,
@@ -33,14 +33,14 @@ pub enum Rule {
 }
 
 // The broken rule beside the place: the offset of the box where it broke.
-#[derive(Drop)]
+#[derive(Clone, Copy)]
 pub struct Refusal {
     pub rule: Rule,
     pub place: usize,
 }
 
 // Where a box stands: at the top of the file, or in the run of a box of this type.
-#[derive(Drop)]
+#[derive(Clone, Copy)]
 pub enum Place {
     Top,
     InOdrm,
@@ -50,7 +50,7 @@ pub enum Place {
 }
 
 // The rows of the table of kinds: the six types, those that count only in their place, and the others.
-#[derive(Drop)]
+#[derive(Clone, Copy)]
 pub enum Kind {
     Ftyp,
     Odrm,
@@ -65,7 +65,7 @@ pub enum Kind {
 }
 
 // What a run has had before a box: how many boxes, how many odrm, and whether an mdri and an odtt.
-#[derive(Drop)]
+#[derive(Clone, Copy)]
 pub struct Seen {
     pub boxes: usize,
     pub odrms: usize,
@@ -74,7 +74,7 @@ pub struct Seen {
 }
 
 // Where a run stands: its place, its depth, and the offset of the box that it is in.
-#[derive(Drop)]
+#[derive(Clone, Copy)]
 pub struct Spot {
     pub place: Place,
     pub depth: usize,
@@ -82,13 +82,13 @@ pub struct Spot {
 }
 
 // The two lengths of a content: with the IV, and without it.
-#[derive(Drop)]
+#[derive(Clone, Copy)]
 pub struct DataLength(pub u64);
 
-#[derive(Drop)]
+#[derive(Clone, Copy)]
 pub struct PlaintextLength(pub u64);
 
-#[derive(Drop)]
+#[derive(Clone, Copy)]
 pub struct Row {
     pub offset: usize,
     pub size: usize,
@@ -97,20 +97,20 @@ pub struct Row {
 }
 
 // A full box's row and its flags.
-#[derive(Drop)]
+#[derive(Clone, Copy)]
 pub struct Full {
     pub row: Row,
     pub flags: usize,
 }
 
 // Bytes of the file.
-#[derive(Drop)]
+#[derive(Clone, Copy)]
 pub struct Stretch {
     pub offset: usize,
     pub length: usize,
 }
 
-#[derive(Drop)]
+#[derive(Clone, Copy)]
 pub struct Summary {
     pub odrm: Full,
     pub odhe: Full,
@@ -128,7 +128,7 @@ pub struct Summary {
 }
 
 // What reading a file answers. Where it is refused, all but the refusal is 0.
-#[derive(Drop)]
+#[derive(Clone, Copy)]
 pub struct Reading {
     pub refusal: Refusal,
     pub boxes: usize,

@@ -7,7 +7,7 @@ ghost use Rattle.strings.specs.Characters.{token, lower, same_name};
 ghost use Rattle.strings.specs.Headers.{next, is_start, textual, index, Answers};
 
 // Which part of a textual-headers entry the next byte is in.
-#[derive(Drop)]
+#[derive(Clone, Copy)]
 pub enum Part {
     Start,
     Name,
@@ -16,7 +16,7 @@ pub enum Part {
 }
 
 // Where a value starts, counted from the field's start, and its length.
-#[derive(Drop)]
+#[derive(Clone, Copy)]
 pub enum Found {
     At(usize, usize),
     Nothing,

@@ -14,7 +14,7 @@ use boxes::Head;
 use format::{Kind, Place, PlaintextLength, Row, Seen, Spot};
 
 // What is counted on the way: the odrm and the ohdr boxes, the last ohdr's method and plaintext length, and what the answer reports.
-#[derive(Drop)]
+#[derive(Clone, Copy)]
 pub struct Tally {
     pub containers: usize,
     pub headers: usize,
@@ -28,7 +28,7 @@ pub struct Tally {
 
 // The number that was broken and its place; or 0 and where the next box starts, how many boxes there were, the last one's kind, and the
 // tally.
-#[derive(Drop)]
+#[derive(Clone, Copy)]
 pub struct Walk {
     pub number: usize,
     pub at: usize,
