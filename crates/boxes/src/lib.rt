@@ -63,6 +63,7 @@ fn is_wrong_size(size: usize, skip: usize, boxtype: usize) -> bool
 }
 
 // The header whose form is known: 3 for a size that is not allowed, 4 for a box that ends after its parent.
+#[tactic(auto, unfolding(crate::specs::Head::sized_head))]
 fn sized(left: usize, size: usize, skip: usize, boxtype: usize) -> Head
     ensures { result ≡ sized_head left size skip boxtype }
 {
@@ -102,6 +103,7 @@ pub fn read_head(s: &[u8], at: usize, end: usize) -> Head
 }
 
 // An odtt and an odrb count in mdri and a udta in odhe; elsewhere they are others.
+#[tactic(auto, unfolding(format::specs::Kinds::other_in))]
 fn other_in(place: Place, boxtype: usize) -> Kind
     ensures { result ≡ other_in place boxtype }
 {
@@ -120,6 +122,7 @@ fn other_in(place: Place, boxtype: usize) -> Kind
 }
 
 // The row of the table of kinds (document 01, Boxes) for a type in a place.
+#[tactic(auto, unfolding(format::specs::Kinds::kind_of))]
 pub fn kind_of(place: Place, boxtype: usize) -> Kind
     ensures { result ≡ kind_of place boxtype }
 {
@@ -135,6 +138,7 @@ pub fn kind_of(place: Place, boxtype: usize) -> Kind
 }
 
 // The table of kinds: whether a run of boxes follows the fields.
+#[tactic(auto, unfolding(format::specs::Kinds::holds_run))]
 pub fn holds_run(kind: Kind) -> bool
     ensures { result ≡ holds_run kind }
 {
@@ -145,6 +149,7 @@ pub fn holds_run(kind: Kind) -> bool
 }
 
 // Where the boxes of the run stand; of a kind with no run it is never asked.
+#[tactic(auto, unfolding(format::specs::Kinds::inside))]
 pub fn inside_of(kind: Kind) -> Place
     ensures { result ≡ inside kind }
 {
@@ -158,6 +163,7 @@ pub fn inside_of(kind: Kind) -> Place
 }
 
 // What a run has had at its start.
+#[tactic(auto, unfolding(format::specs::Judge::nothing))]
 pub fn no_boxes() -> Seen
     ensures { result ≡ nothing }
 {
@@ -170,6 +176,7 @@ pub fn no_boxes() -> Seen
 }
 
 // What a run has had once a box has passed: all that numbers 5 and 6 ask of the boxes before.
+#[tactic(auto, unfolding(format::specs::Judge::note, format::specs::Kinds::same_kind, format::specs::Kinds::kind_number))]
 pub fn noted(n: Seen, kind: Kind) -> Seen
     requires { (n.boxes < 65536) × (n.odrms < 65536) }
     ensures { result ≡ note n kind }
@@ -194,6 +201,7 @@ pub fn noted(n: Seen, kind: Kind) -> Seen
 }
 
 // Number 5: no row is left, or this is a ninth odrm.
+#[tactic(auto, unfolding(format::specs::Judge::no_row, format::specs::Kinds::same_kind, format::specs::Kinds::kind_number))]
 pub fn has_no_row(cap: usize, n: Seen, rows: usize, kind: Kind) -> bool
     ensures { result ≡ no_row cap n rows kind }
 {
@@ -207,6 +215,7 @@ pub fn has_no_row(cap: usize, n: Seen, rows: usize, kind: Kind) -> bool
 }
 
 // "Others" are boxes of any type but these six.
+#[tactic(auto, unfolding(format::specs::Kinds::is_six, format::specs::Kinds::same_kind, format::specs::Kinds::kind_number))]
 fn is_six(kind: Kind) -> bool
     ensures { result ≡ is_six kind }
 {
@@ -217,6 +226,7 @@ fn is_six(kind: Kind) -> bool
 }
 
 // At the top: ftyp first; no odrm and no second mdri after an mdri; others anywhere after ftyp.
+#[tactic(auto, unfolding(format::specs::Judge::misplaced, format::specs::Judge::late_at_top, format::specs::Kinds::same_kind, format::specs::Kinds::kind_number))]
 fn is_misplaced_at_top(n: Seen, kind: Kind) -> bool
     ensures { result ≡ misplaced Place.Top n kind }
 {
@@ -234,6 +244,7 @@ fn is_misplaced_at_top(n: Seen, kind: Kind) -> bool
 }
 
 // In odrm: odhe, odda, then others.
+#[tactic(auto, unfolding(format::specs::Judge::misplaced, format::specs::Kinds::same_kind, format::specs::Kinds::kind_number, format::specs::Kinds::is_six))]
 fn is_misplaced_in_odrm(n: Seen, kind: Kind) -> bool
     ensures { result ≡ misplaced Place.InOdrm n kind }
 {
@@ -246,6 +257,7 @@ fn is_misplaced_in_odrm(n: Seen, kind: Kind) -> bool
 }
 
 // In odhe: ohdr, then at most one udta.
+#[tactic(auto, unfolding(format::specs::Judge::misplaced, format::specs::Kinds::same_kind, format::specs::Kinds::kind_number))]
 fn is_misplaced_in_odhe(n: Seen, kind: Kind) -> bool
     ensures { result ≡ misplaced Place.InOdhe n kind }
 {
@@ -257,6 +269,7 @@ fn is_misplaced_in_odhe(n: Seen, kind: Kind) -> bool
 }
 
 // In mdri: others, at most one odtt.
+#[tactic(auto, unfolding(format::specs::Judge::misplaced, format::specs::Kinds::same_kind, format::specs::Kinds::kind_number, format::specs::Kinds::is_six))]
 fn is_misplaced_in_mdri(n: Seen, kind: Kind) -> bool
     ensures { result ≡ misplaced Place.InMdri n kind }
 {
@@ -268,6 +281,7 @@ fn is_misplaced_in_mdri(n: Seen, kind: Kind) -> bool
 }
 
 // Number 6 at a box: it stands in a wrong place or is repeated.
+#[tactic(auto, unfolding(format::specs::Judge::misplaced))]
 pub fn is_misplaced(place: Place, n: Seen, kind: Kind) -> bool
     ensures { result ≡ misplaced place n kind }
 {
@@ -281,6 +295,7 @@ pub fn is_misplaced(place: Place, n: Seen, kind: Kind) -> bool
 }
 
 // Number 6 at the end of a run: a box that it must have is missing.
+#[tactic(auto, unfolding(format::specs::Judge::missing))]
 pub fn is_missing(place: Place, n: Seen) -> bool
     ensures { result ≡ missing place n }
 {

@@ -13,7 +13,7 @@ use Rattle.format.specs.declared.Kind.TheVariants.{Ftyp, Odrm, Odhe, Ohdr, Odda,
 use Rattle.format.specs.declared.PlaintextLength.{PlaintextLength}
 use Rattle.format.specs.declared.DataLength.{DataLength}
 use Rattle.format.specs.Kinds.{fields_length, kind_number, same_kind}
-use Rattle.format.specs.Fields.{type_length, method, data_length}
+use Rattle.format.specs.Fields.{type_length, data_length}
 use Rattle.format.specs.Allowed.{MethodTakes, LengthsAgree, Says}
 use Rattle.format.specs.Judge.{ragged, cut, newer, takes, wrong_method, outside, wrong_length, malformed, agrees}
 
