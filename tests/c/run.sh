@@ -5,9 +5,9 @@ here=$(cd "$(dirname "$0")" && pwd)
 root=$(cd "$here/../.." && pwd)
 out=$(mktemp -d)
 trap 'rm -rf "$out"' EXIT
-cd "$root"
-rt staticlib player >"$out/log" 2>&1 || { cat "$out/log"; exit 1; }
-cp target/staticlib/libplayer.a "$out"
+cd "$root/crates/player_c"
+rt lib >"$out/log" 2>&1 || { cat "$out/log"; exit 1; }
+cp out/libplayer_c.a "$out/libplayer.a"
 cd "$here"
 gcc -Wall -Wextra -Werror -I "$root/include" -o "$out/read" read.c "$out/libplayer.a"
 echo "plain:"

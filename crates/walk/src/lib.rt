@@ -66,6 +66,7 @@ fn stop(number: usize, place: usize) -> Walk
 }
 
 // Row n of out, four numbers, if there is room for it: who wants no rows lends none.
+#[tactic(auto, unfolding(crate::specs::Keeping::with_row))]
 fn put(out: &mut [usize], n: usize, row: Row)
     requires { n < 256 }
     ensures { out.new ≡ with_row out.old n row }
@@ -81,6 +82,7 @@ fn put(out: &mut [usize], n: usize, row: Row)
 }
 
 // Keeps where an odrm starts, and where an ohdr's ContentID lies: b is the box's bytes after its header, which start at `start`.
+#[tactic(auto, unfolding(crate::specs::Keeping::marked, format::specs::Kinds::same_kind, format::specs::Kinds::kind_number))]
 fn mark(marks: &mut [usize], b: &[u8], t: Tally, kind: Kind, at: usize, start: usize)
     requires { Marking marks.old b.now t kind start }
     ensures { marks.new ≡ marked marks.old t kind at start b.now }
@@ -100,6 +102,7 @@ fn mark(marks: &mut [usize], b: &[u8], t: Tally, kind: Kind, at: usize, start: u
     }
 }
 
+#[tactic(auto, unfolding(format::specs::Report::in_mdri))]
 fn in_mdri(place: Place) -> bool
     ensures { result ≡ in_mdri place }
 {
@@ -110,6 +113,7 @@ fn in_mdri(place: Place) -> bool
 }
 
 // The size of a box that is short-form free space directly in mdri; else 0.
+#[tactic(auto, unfolding(crate::specs::Keeping::free_at))]
 fn free_size(place: Place, h: Head) -> usize
     ensures { result ≡ pick (free_at place h.boxtype h.skip) h.size 0 }
 {
@@ -129,6 +133,7 @@ fn free_size(place: Place, h: Head) -> usize
 }
 
 // The tally with one box more.
+#[tactic(auto, unfolding(crate::specs::Keeping::added, format::specs::Kinds::same_kind, format::specs::Kinds::kind_number))]
 fn add(t: Tally, b: &[u8], place: Place, kind: Kind, at: usize, h: Head) -> Tally
     requires { Small t b.now kind at h }
     ensures { result ≡ added t place kind at h b.now }
@@ -181,6 +186,7 @@ fn is_known(id: &[u8], s: &[u8], marks: &[usize], n: usize) -> bool
 }
 
 // Number 13: whether a box is an ohdr whose ContentID an earlier one has.
+#[tactic(auto, unfolding(format::specs::Judge::again, format::specs::Kinds::same_kind, format::specs::Kinds::kind_number))]
 fn is_again(b: &[u8], kind: Kind, s: &[u8], marks: &[usize], n: usize) -> bool
     requires n_bound { (n ≤ 8) × (24 ≤ length marks.now) × Named s.now marks.now n }
     requires b_in_bounds { fields_length kind b.now ≤ length b.now }
