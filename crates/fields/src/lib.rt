@@ -15,6 +15,7 @@ use format::{DataLength, Kind, PlaintextLength};
 const ODCF: usize = 0x6f646366;
 
 // Whether a method takes a padding (document 01, Boxes): 0 takes 0, 1 (CBC) takes 1, 2 (CTR) takes 0.
+#[tactic(auto, unfolding(format::specs::Judge::takes))]
 fn takes_padding(method: usize, padding: usize) -> bool
     ensures { result ≡ takes method padding }
 {
@@ -43,6 +44,7 @@ fn is_outside(most: usize, length: usize) -> bool
 }
 
 // Whether a data length agrees with a method and a plaintext length (document 01, Boxes). D is taken apart, since a sum over P could wrap.
+#[tactic(auto, unfolding(format::specs::Judge::agrees))]
 pub fn is_agreeing(method: usize, plaintext: PlaintextLength, length: DataLength) -> bool
     ensures { result ≡ agrees method plaintext length }
 {
@@ -66,6 +68,7 @@ pub fn is_agreeing(method: usize, plaintext: PlaintextLength, length: DataLength
 }
 
 // ftyp: 7 where it is cut or its brands are not whole, 8 where its major brand is not odcf.
+#[tactic(auto, using(crate::proofs::Tests::fault_of_ftyp))]
 pub fn check_ftyp(b: &[u8]) -> usize
     ensures { (m : ℕ) (p : PlaintextLength) → result ≡ field_fault Kind.Ftyp m p b.now }
 {
@@ -82,6 +85,7 @@ pub fn check_ftyp(b: &[u8]) -> usize
 }
 
 // odrm and odrb, whose fields are a full box's version and flags alone: 7 where they are cut, 8 where the version is not 0.
+#[tactic(auto, using(crate::proofs::Tests::fault_of_odrm, crate::proofs::Tests::fault_of_odrb))]
 pub fn check_full(b: &[u8]) -> usize
     ensures by_index { (m : ℕ) (p : PlaintextLength) → result ≡ field_fault Kind.Odrm m p b.now }
     ensures by_index_2 { (m : ℕ) (p : PlaintextLength) → result ≡ field_fault Kind.Odrb m p b.now }
@@ -96,6 +100,7 @@ pub fn check_full(b: &[u8]) -> usize
 }
 
 // odhe: 7 where its ContentType runs past the box, 8 where the version is not 0, 10 for the ContentType's length.
+#[tactic(auto, using(crate::proofs::Tests::fault_of_odhe))]
 pub fn check_odhe(b: &[u8]) -> usize
     ensures { (m : ℕ) (p : PlaintextLength) → result ≡ field_fault Kind.Odhe m p b.now }
 {
@@ -116,6 +121,7 @@ pub fn check_odhe(b: &[u8]) -> usize
 }
 
 // ohdr: 7 where its strings run past the box, then 8, 9 for method or padding, 10 for the ContentID's length, 11 for textual headers.
+#[tactic(auto, using(crate::proofs::Tests::fault_of_ohdr))]
 pub fn check_ohdr(b: &[u8]) -> usize
     ensures { (m : ℕ) (p : PlaintextLength) → result ≡ field_fault Kind.Ohdr m p b.now }
 {
@@ -144,6 +150,7 @@ pub fn check_ohdr(b: &[u8]) -> usize
 }
 
 // odda: 7, 8, and 12 where D is longer than the rest or does not agree with its container's method and plaintext length.
+#[tactic(auto, using(crate::proofs::Tests::fault_of_odda))]
 pub fn check_odda(b: &[u8], method: usize, plaintext: PlaintextLength) -> usize
     ensures { result ≡ field_fault Kind.Odda method plaintext b.now }
 {
@@ -164,6 +171,7 @@ pub fn check_odda(b: &[u8], method: usize, plaintext: PlaintextLength) -> usize
 }
 
 // odtt: 7 unless 16 bytes follow the version and flags, 8 where the version is not 0.
+#[tactic(auto, using(crate::proofs::Tests::fault_of_odtt))]
 pub fn check_odtt(b: &[u8]) -> usize
     ensures { (m : ℕ) (p : PlaintextLength) → result ≡ field_fault Kind.Odtt m p b.now }
 {
@@ -195,6 +203,7 @@ pub fn check(b: &[u8], kind: Kind, method: usize, plaintext: PlaintextLength) ->
 }
 
 // How many bytes after a header are fields (document 01, Boxes): past them starts the box's run, or its data.
+#[tactic(auto, unfolding(format::specs::Kinds::fields_length))]
 pub fn fields_length(b: &[u8], kind: Kind) -> usize
     requires { fields_length kind b.now ≤ length b.now }
     ensures { result ≡ fields_length kind b.now }
