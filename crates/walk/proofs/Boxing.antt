@@ -1,14 +1,13 @@
 -- One box of the bytes b that are left of a run: how the tree starts with it, and what the judge asks of it. Assumes nothing.
 use mathlib.Core.Path.{◌≡◌, refl, sym, ap, ◌∙◌}
-use Prim.Native.Nat.{ℕ, zero, suc, ◌+◌, ◌-◌, ◌≤◌, ◌<◌}
+use Prim.Native.Nat.{ℕ, suc, ◌+◌, ◌-◌, ◌≤◌}
 use native.Mathlib.Omega.{arith}
 use mathlib.Core.Bool.{Bool, true, false}
 use mathlib.Core.List.{List, [], ◌∷◌, ◌++◌}
 use lib.ListN.{length, take, drop, length-drop}
 use lib.Seq.{slice, length-slice, length-take-le, take-take}
-use lib.Dec.{leb, eqb}
 use borrow.Author.Tests.{leb-true, ne_eqb}
-use Rattle.numbers.specs.Choice.{pick, both, both_true}
+use Rattle.numbers.specs.Choice.{both_true}
 use Rattle.format.specs.declared.Place.{Place}
 use Rattle.format.specs.declared.Kind.{Kind}
 use Rattle.format.specs.declared.Seen.{Seen}
@@ -16,12 +15,11 @@ use Rattle.format.specs.declared.Spot.{Spot}
 use Rattle.format.specs.Kinds.{kind_of, fields_length, holds_run, inside}
 use Rattle.format.specs.Header.{header_length, size_of, type_of, header_fault}
 use Rattle.format.specs.Tree.{Run, leaf, node, encode, opens, head_of, body_of, rest_of, grow, parse}
-use Rattle.format.specs.Fields.{method, plaintext}
-use Rattle.format.specs.Boxes.{Box, kind, room, into}
-use Rattle.format.specs.Judge.{nothing, note, no_row, misplaced, cut, newer, wrong_method, wrong_length, malformed, wrong_data, again, ids, last_ohdr, wrong, place_of, Out, fault, unless, and_then, judge}
-use Rattle.format.proofs.Headers.{at-least-eight, header-length, header-type, fields-take, Cut, Sliced, good-cut}
+use Rattle.format.specs.Boxes.{Box, into}
+use Rattle.format.specs.Judge.{nothing, note, wrong, fault, unless, and_then, judge}
+use Rattle.format.proofs.Headers.{at-least-eight, header-type, fields-take, Cut, good-cut}
 use Rattle.format.proofs.Trees.{parse-cons, parse-bad, parse-whole, grow-leaf}
-use Rattle.format.proofs.Slices.{take-slice, slice-drop, part_slice}
+use Rattle.format.proofs.Slices.{take-slice, slice-drop}
 
 abbrev pub kind_in : Place → List ℕ → Kind
 kind_in c b = kind_of c (type_of b)

@@ -1,11 +1,11 @@
 -- A box that breaks neither 5 nor 6 leaves at most eight containers, and no more ohdr boxes than containers. Assumes nothing.
-use mathlib.Core.Path.{◌≡◌, refl, sym, ap, ◌∙◌}
+use mathlib.Core.Path.{◌≡◌, refl, sym, ◌∙◌}
 use Prim.Native.Nat.{ℕ, ◌+◌, ◌≤◌, ◌<◌}
 use native.Mathlib.Omega.{arith}
-use mathlib.Core.Bool.{Bool, true, false, not}
+use mathlib.Core.Bool.{Bool, true, false}
 use lib.Dec.{leb, eqb}
-use borrow.Author.Tests.{leb-false, ne_eqb}
-use Rattle.numbers.specs.Choice.{pick, both, either, either-false, true-not-false}
+use borrow.Author.Tests.{leb-false}
+use Rattle.numbers.specs.Choice.{pick, either-false, true-not-false}
 use Rattle.format.specs.declared.Place.{Place}
 use Rattle.format.specs.declared.Place.TheVariants.{Top, InOdrm, InOdhe, InOhdr, InMdri}
 use Rattle.format.specs.declared.Kind.{Kind}

@@ -1,16 +1,16 @@
 -- What the walk keeps grows with the boxes that it has read. Assumes nothing.
-use mathlib.Core.Path.{◌≡◌, refl, sym, ap, ap₂, ◌∙◌}
-use Prim.Native.Nat.{ℕ, zero, suc, ◌+◌, ◌-◌, ◌*◌, ◌≤◌, ◌<◌}
+use mathlib.Core.Path.{◌≡◌, refl, sym, ap, ◌∙◌}
+use Prim.Native.Nat.{ℕ, zero, suc, ◌+◌, ◌*◌, ◌≤◌, ◌<◌}
 use native.Mathlib.Nat.{add-zero, zero-add}
 use native.Mathlib.Numerals.{add-one}
 use native.Mathlib.Omega.{arith}
 use mathlib.Core.Bool.{Bool, true, false}
 use mathlib.Core.List.{List, [], ◌∷◌, ◌++◌, append_assoc, append-nil, map}
-use lib.ListN.{length, take, drop, get_or, set, length-append, length-set}
-use lib.Seq.{slice, take-suc-set, take-set-le, get_or-set_same, get_or-set_other, length-take-le}
-use lib.Dec.{leb, eqb}
+use lib.ListN.{length, take, get_or, set, length-append, length-set}
+use lib.Seq.{slice, take-suc-set, take-set-le, get_or-set_same, get_or-set_other}
+use lib.Dec.{leb}
 use borrow.Author.Tests.{le-leb, eqb-true}
-use Rattle.numbers.specs.Choice.{pick, both, either}
+use Rattle.numbers.specs.Choice.{pick}
 use Rattle.numbers.specs.Big.{num}
 use Rattle.numbers.proofs.Laws.{num-take}
 use Rattle.format.specs.declared.Kind.{Kind}

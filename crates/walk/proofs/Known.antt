@@ -1,19 +1,18 @@
 -- A ContentID among the first n that the marks hold: one at a time. Assumes nothing.
 use mathlib.Core.Path.{◌≡◌, refl, sym, ap, ◌∙◌}
-use Prim.Native.Nat.{ℕ, zero, suc, ◌+◌, ◌-◌, ◌*◌, ◌≤◌, ◌<◌}
+use Prim.Native.Nat.{ℕ, zero, suc, ◌+◌, ◌*◌, ◌≤◌, ◌<◌}
 use native.Mathlib.Nat.{eq-or-lt_of_le}
 use native.Mathlib.Numerals.{add-one}
 use native.Mathlib.Omega.{arith}
 use mathlib.Core.Logic.{⊎_elim}
 use mathlib.Core.Bool.{Bool, true, false}
 use mathlib.Core.List.{List, [], ◌∷◌, ◌++◌}
-use lib.ListN.{length, take, drop, get_or}
+use lib.ListN.{get_or}
 use lib.Seq.{slice}
 use Rattle.numbers.specs.Choice.{either}
 use Rattle.strings.specs.Same.{same}
 use Rattle.format.specs.Judge.{among}
 use Rattle.format.proofs.Saying.{false-either}
-use Rattle.format.proofs.Slices.{part_slice}
 use Rattle.walk.specs.Keeping.{ids_in}
 
 among-append : (x : List ℕ) (ys zs : List (List ℕ)) → among x (ys ++ zs) ≡ either (among x ys) (among x zs)

@@ -1,11 +1,10 @@
 -- The number that the code finds in a box is the number that the box breaks. Assumes nothing.
 use mathlib.Core.Path.{◌≡◌, refl, sym, ap, ◌∙◌}
-use Prim.Native.Nat.{ℕ, suc, ◌+◌, ◌-◌, ◌≤◌, ◌<◌}
+use Prim.Native.Nat.{ℕ, ◌≤◌, ◌<◌}
 use native.Mathlib.Omega.{arith}
 use mathlib.Core.Bool.{Bool, true, false}
-use mathlib.Core.List.{List, [], ◌∷◌}
+use mathlib.Core.List.{List}
 use lib.ListN.{length, take}
-use lib.Seq.{slice, length-slice}
 use lib.Dec.{leb, eqb}
 use borrow.Author.Tests.{leb-false, eqb-true, ne_eqb}
 use Rattle.numbers.specs.Choice.{pick, pick-zero, either-false}
@@ -15,17 +14,17 @@ use Rattle.format.specs.declared.Seen.{Seen}
 use Rattle.format.specs.declared.Spot.{Spot}
 use Rattle.format.specs.declared.PlaintextLength.{PlaintextLength}
 use Rattle.format.specs.Kinds.{fields_length}
-use Rattle.format.specs.Header.{header_length, header_fault}
+use Rattle.format.specs.Header.{header_fault}
 use Rattle.format.specs.Tree.{body_of}
 use Rattle.format.specs.Fields.{method, plaintext}
-use Rattle.format.specs.Boxes.{Box, kind, room}
+use Rattle.format.specs.Boxes.{Box, room}
 use Rattle.format.specs.Judge.{no_row, misplaced, cut, newer, wrong_method, wrong_length, malformed, wrong_data, again, ids, last_ohdr, wrong}
 use Rattle.fields.specs.Fault.{field_fault}
 use Rattle.fields.proofs.Laws.{fault-fields, again-fields, fault-fit}
 use Rattle.walk.specs.declared.Tally.{Tally}
 use Rattle.walk.specs.Keeping.{ids_in, Holds}
 use Rattle.walk.specs.Walking.{number_in}
-use Rattle.walk.proofs.Boxing.{kind_in, size_in, fields_in, box_at, Cutting, cutting}
+use Rattle.walk.proofs.Boxing.{kind_in, box_at, cutting}
 
 -- a test more in front of a chain of numbers that goes on where it is 0
 pick-tail : (t : Bool) (k u v x : ℕ) → (k ≡ 0 → ⊥) → u ≡ pick (eqb v 0) x v → pick t k u ≡ pick (eqb (pick t k v) 0) x (pick t k v)

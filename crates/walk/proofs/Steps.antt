@@ -1,14 +1,13 @@
 -- What one box and a run ensure follows from what the functions below them do. Assumes nothing.
 use mathlib.Core.Path.{◌≡◌, refl, sym, ap, ◌∙◌}
-use Prim.Native.Nat.{ℕ, zero, suc, ◌+◌, ◌-◌, ◌*◌, ◌≤◌, ◌<◌}
+use Prim.Native.Nat.{ℕ, zero, suc, ◌+◌, ◌-◌, ◌≤◌, ◌<◌}
 use native.Mathlib.Omega.{arith}
-use mathlib.Core.Bool.{Bool, true, false}
+use mathlib.Core.Bool.{true, false}
 use mathlib.Core.List.{List, [], ◌∷◌, ◌++◌}
-use lib.ListN.{length, take, drop, get_or, set, length-set}
-use lib.Seq.{slice, slice_empty, length-slice, take-length, take-take, get_or-set_same, get_or-set_other}
-use lib.Dec.{leb, eqb}
+use lib.ListN.{length, take, drop}
+use lib.Seq.{slice, slice_empty, length-slice, take-length, take-take}
 use borrow.Author.Tests.{le-leb, le-ltb, lt-ltb, ne_eqb}
-use Rattle.numbers.specs.Choice.{pick, both, pick-by, true-not-false}
+use Rattle.numbers.specs.Choice.{pick, pick-by, true-not-false}
 use Rattle.numbers.specs.Big.{num}
 use Rattle.numbers.proofs.Laws.{num-take}
 use Rattle.format.specs.declared.Place.{Place}
@@ -18,26 +17,24 @@ use Rattle.format.specs.declared.Kind.TheVariants.{Odrm, Ohdr, Other}
 use Rattle.format.specs.declared.Seen.{Seen}
 use Rattle.format.specs.declared.Spot.{Spot}
 use Rattle.format.specs.Kinds.{kind_of, fields_length, same_kind, holds_run, inside}
-use Rattle.format.specs.Header.{header_length, size_of, type_of, header_fault}
+use Rattle.format.specs.Header.{header_length, header_fault}
 use Rattle.format.specs.Tree.{opens, body_of, rest_of, parse}
 use Rattle.format.specs.Fields.{id_length, content_id}
 use Rattle.format.specs.Boxes.{Box, top, kind, into}
-use Rattle.format.specs.Judge.{nothing, note, no_row, misplaced, missing, wrong, Out, fault, done, unless, and_then, judge, read_of}
-use Rattle.format.specs.Report.{row_of}
+use Rattle.format.specs.Judge.{nothing, note, missing, wrong, Out, fault, done, unless, and_then, judge, read_of}
 use Rattle.format.proofs.Trees.{parse-end}
 use Rattle.format.proofs.Order.{same_kind_lem}
 use Rattle.format.proofs.Slices.{slice-drop, slice-slice, part_slice}
 use Rattle.boxes.specs.declared.Head.{Head}
 use Rattle.boxes.specs.Head.{head_in}
 use Rattle.boxes.proofs.Laws.{KeptHead, kept-head, refused-head}
-use Rattle.walk.specs.declared.Tally.{Tally}
 use Rattle.walk.specs.declared.Walk.{Walk}
-use Rattle.walk.specs.Keeping.{tally_of, added, free_at, with_row, ids_in, marked, Holds}
-use Rattle.walk.specs.Walking.{stopped, number_in, is_top, to_come, Counted, Bound, Marking, Small, Ready, Told, After, Ran, Stepped, Walked}
-use Rattle.walk.proofs.Boxing.{kind_in, size_in, fields_in, box_at, Cutting, cutting, judge-bad, judge-leaf, judge-node, judge-wrong, body-slice}
+use Rattle.walk.specs.Keeping.{tally_of, added, with_row, ids_in, marked, Holds}
+use Rattle.walk.specs.Walking.{stopped, number_in, is_top, to_come, Bound, Marking, Small, Ready, Told, Ran, Stepped, Walked}
+use Rattle.walk.proofs.Boxing.{kind_in, size_in, fields_in, box_at, cutting, judge-bad, judge-leaf, judge-node, judge-wrong, body-slice}
 use Rattle.walk.proofs.Kept.{Fits, holds-add}
 use Rattle.walk.proofs.Counts.{Counting, counting, inside-not-top}
-use Rattle.walk.proofs.Bounds.{length_marked, bound-add}
+use Rattle.walk.proofs.Bounds.{bound-add}
 use Rattle.walk.proofs.Numbers.{number_is, None, none_in}
 
 -- ---- verdicts
@@ -420,7 +417,7 @@ module _ {s : List ℕ} {cap end : ℕ} {q : Spot} {n : Seen} {w : Walk} {out ma
   pub ran-stop : {r : Walk} {out' marks' : List ℕ} → w.at < end → Stepped s cap end q n w out marks r out' marks' → (r.number ≡ 0 → ⊥)
       → Ran s cap end q n w out marks r out' marks'
   ran-stop {r} {out'} {marks'} lt b f = record {
-    told = λ m. elim m [
+    told = λ m. elim m as (λ (m : ℕ). (log : List Box) → end - w.at ≤ m → Holds s log w.count w.tally out marks → Told s end (judge cap q n w.at log (parse m q.place (slice w.at end s))) r out' marks') [
       | zero ↦ λ log l o. absurd (omega arith)
       | suc m ↦ λ log l o. told-fault s end _ r out' marks' (b.refused f m log l o) f
     ];
@@ -432,8 +429,8 @@ module _ {s : List ℕ} {cap end : ℕ} {q : Spot} {n : Seen} {w : Walk} {out ma
   -- what is true of the rest is true of the whole
   pub ran-go : {v r : Walk} {out₁ marks₁ out₂ marks₂ : List ℕ} → w.at < end → Stepped s cap end q n w out marks v out₁ marks₁ → v.number ≡ 0
       → Ran s cap end q (note n v.kind) v out₁ marks₁ r out₂ marks₂ → Ran s cap end q n w out marks r out₂ marks₂
-  ran-go {v} {r} lt b k g = record {
-    told = λ m. elim m [
+  ran-go {v} {r} {out₁} {marks₁} {out₂} {marks₂} lt b k g = record {
+    told = λ m. elim m as (λ (m : ℕ). (log : List Box) → end - w.at ≤ m → Holds s log w.count w.tally out marks → Told s end (judge cap q n w.at log (parse m q.place (slice w.at end s))) r out₂ marks₂) [
       | zero ↦ λ log l o. absurd (omega arith)
       | suc m ↦ λ log l o.
           let t = b.goes k m log l o in

@@ -1,12 +1,11 @@
 -- What the walk keeps of the boxes that it has read: a tally by value, a row of four numbers for each box in one lent slice, and in another,
 -- the marks, the offset of each odrm (indices 0 to 7) and the offset and length of each ContentID (from index 8 on). Assumes nothing.
-use Rattle.std.specs.Prelude.{◌≡◌, ℕ, zero, suc, ◌+◌, ◌*◌, ◌≤◌, ◌<◌, Bool, true, false, List, [], ◌∷◌, ◌++◌, map, length, take, get_or, set, leb, eqb}
+use Rattle.std.specs.Prelude.{◌≡◌, ℕ, zero, suc, ◌+◌, ◌*◌, ◌≤◌, Bool, List, [], ◌∷◌, ◌++◌, map, length, take, get_or, set, leb, eqb}
 use Rattle.std.proofs.Math.Seq.{slice}
 use Rattle.numbers.specs.Choice.{pick, both, either}
 use Rattle.format.specs.declared.Place.{Place}
 use Rattle.format.specs.declared.Kind.{Kind}
 use Rattle.format.specs.declared.Kind.TheVariants.{Odrm, Ohdr, Mdri, Odtt, Odrb}
-use Rattle.format.specs.declared.PlaintextLength.{PlaintextLength}
 use Rattle.format.specs.declared.Row.{Row}
 use Rattle.format.specs.Kinds.{FREE, SKIP, same_kind}
 use Rattle.format.specs.Fields.{method, plaintext, id_length}

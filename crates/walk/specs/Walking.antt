@@ -12,7 +12,7 @@ use Rattle.format.specs.declared.PlaintextLength.{PlaintextLength}
 use Rattle.format.specs.Kinds.{same_kind}
 use Rattle.format.specs.Boxes.{Box}
 use Rattle.format.specs.Tree.{parse}
-use Rattle.format.specs.Judge.{nothing, note, no_row, misplaced, again, Out, fault, done, judge, read_of}
+use Rattle.format.specs.Judge.{note, no_row, misplaced, again, Out, fault, done, judge, read_of}
 use Rattle.fields.specs.Fault.{field_fault}
 use Rattle.boxes.specs.declared.Head.{Head}
 use Rattle.walk.specs.declared.Tally.{Tally}
