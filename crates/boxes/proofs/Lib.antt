@@ -1,4 +1,2 @@
-pub mod Tags
-pub mod Order
 pub mod Heads
 pub mod Laws

@@ -1,28 +1,24 @@
--- What the code tests of the bytes after a header is what the definitions test of them. Assumes nothing.
-use mathlib.Core.Path.{◌≡◌, refl, sym, ap, ◌∙◌}
-use mathlib.Core.Logic.{inr}
-use Prim.Native.Nat.{ℕ, ◌+◌, ◌-◌, ◌%◌, ◌≤◌, ◌<◌}
+-- What field_fault says of each kind: the tests that the kind has, in number order. Assumes nothing.
+use mathlib.Core.Path.{◌≡◌}
+use Prim.Native.Nat.{ℕ, ◌+◌, ◌-◌, ◌%◌, ◌≤◌}
 use native.Mathlib.Omega.{arith}
-use mathlib.Core.Bool.{Bool, true, false, not}
+use mathlib.Core.Bool.{Bool}
 use mathlib.Core.List.{List}
 use lib.ListN.{length, take, drop}
 use lib.Dec.{ltb, eqb}
-use borrow.Author.Tests.{lt-ltb, le-ltb, eq-eqb, ne_eqb}
-use Rattle.numbers.specs.Choice.{pick, either}
+use Rattle.numbers.specs.Choice.{pick}
 use Rattle.numbers.specs.Big.{num}
 use Rattle.numbers.specs.Read.{Read}
 use Rattle.strings.specs.Headers.{textual}
-use Rattle.format.specs.declared.Kind.{Kind}
-use Rattle.format.specs.declared.Kind.TheVariants.{Ftyp, Odrm, Odrb, Odhe, Ohdr, Odda, Odtt}
+use Rattle.format.specs.declared.Kind.TheVariants.{Ftyp, Odrm, Odrb, Odhe, Ohdr, Odda, Mdri, Odtt, Udta, Other}
 use Rattle.format.specs.declared.PlaintextLength.{PlaintextLength}
 use Rattle.format.specs.Kinds.{ODCF, fields_length, kind_number, same_kind}
 use Rattle.format.specs.Judge.{ragged, cut, newer, takes, outside, wrong_method, wrong_length, malformed, agrees, wrong_data}
 use Rattle.format.specs.Fields.{textual_headers, data_length}
-use Rattle.format.proofs.Saying.{true-either}
 use Rattle.format.proofs.Slices.{part_slice}
 use Rattle.fields.specs.Fault.{field_fault}
 
--- ---- the chain of numbers of each kind: the tests that it has, in the order of the code
+-- ---- kinds with fields
 
 pub fault_of_ftyp : (m : ℕ) (p : PlaintextLength) (b : List ℕ) → field_fault Ftyp m p b ≡ pick (ltb (length b) 8) 7 (pick (eqb (length b % 4) 0) (pick (eqb (num 4 b 0) ODCF) 0 8) 7)
 unfolding field_fault fields_length cut ragged newer wrong_method wrong_length malformed wrong_data same_kind kind_number
@@ -60,13 +56,16 @@ pub headers_read : {b : List ℕ} {i u n : ℕ} {r : Bool} → Read 2 b 14 i →
 headers_read {b} {i} {u} {n} p q s l e =
     rw (← p.value, ← q.value, ← s.value, ← part_slice (20 + i + u) (20 + i + u + n) b (omega arith) l) e
 
--- ---- a kind without fields, and a kind told apart
+-- ---- kinds without fields break nothing
 
-pub fault-whole : (k : Kind) (m : ℕ) (p : PlaintextLength) (b : List ℕ) {n w l f d : Bool} → fields_length k b ≤ length b
-    → ragged k (length b) ≡ false → newer k b ≡ n → wrong_method k b ≡ w → wrong_length k b ≡ l → malformed k b ≡ f
-    → wrong_data k (length b) m p b ≡ d → pick n 8 (pick w 9 (pick l 10 (pick f 11 (pick d 12 0)))) ≡ field_fault k m p b
-unfolding field_fault cut
-fault-whole k m p b h r e8 e9 e10 e11 e12 = sym (rw (le-ltb (length b) (fields_length k b) h, r, e8, e9, e10, e11, e12))
+pub fault_of_mdri : (m : ℕ) (p : PlaintextLength) (b : List ℕ) → field_fault Mdri m p b ≡ 0
+unfolding field_fault fields_length cut ragged newer wrong_method wrong_length malformed wrong_data same_kind kind_number
+fault_of_mdri m p b = grind arith
 
-pub of-kind : {j k : Kind} (m : ℕ) (p : PlaintextLength) (b : List ℕ) {r : ℕ} → k ≡ j → r ≡ field_fault j m p b → r ≡ field_fault k m p b
-of-kind m p b e h = rw e h
+pub fault_of_udta : (m : ℕ) (p : PlaintextLength) (b : List ℕ) → field_fault Udta m p b ≡ 0
+unfolding field_fault fields_length cut ragged newer wrong_method wrong_length malformed wrong_data same_kind kind_number
+fault_of_udta m p b = grind arith
+
+pub fault_of_other : (m : ℕ) (p : PlaintextLength) (b : List ℕ) → field_fault Other m p b ≡ 0
+unfolding field_fault fields_length cut ragged newer wrong_method wrong_length malformed wrong_data same_kind kind_number
+fault_of_other m p b = grind arith

@@ -185,6 +185,7 @@ pub fn check_odtt(b: &[u8]) -> usize
 }
 
 // The first of the numbers 7 to 12 that the bytes after a header break (document 01, Numbers given back), or 0.
+#[tactic(auto, using(crate::proofs::Tests::fault_of_mdri, crate::proofs::Tests::fault_of_udta, crate::proofs::Tests::fault_of_other))]
 pub fn check(b: &[u8], kind: Kind, method: usize, plaintext: PlaintextLength) -> usize
     ensures { result ≡ field_fault kind method plaintext b.now }
 {

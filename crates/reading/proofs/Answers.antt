@@ -1,28 +1,25 @@
 -- The answer follows from what the walk keeps. Assumes nothing.
 use mathlib.Core.Path.{◌≡◌, refl, sym, ap, ◌∙◌}
-use Prim.Native.Nat.{ℕ, zero, suc, ◌+◌, ◌*◌, ◌/◌, ◌≤◌, ◌<◌, min}
+use Prim.Native.Nat.{ℕ, suc, ◌≤◌}
 use native.Mathlib.Omega.{arith}
-use mathlib.Core.Bool.{Bool, true, false}
-use mathlib.Core.List.{List, [], ◌∷◌, ◌++◌, map}
-use lib.ListN.{length, take, drop, get_or, length-append, get_or-map}
-use lib.Seq.{get_or-take, length-take-le}
-use Rattle.strings.specs.Headers.{Each}
+use mathlib.Core.List.{List, [], ◌∷◌, map}
+use lib.ListN.{length, drop}
 use Rattle.format.specs.declared.Rule.TheVariants.{Done}
 use Rattle.format.specs.declared.Reading.{Reading}
 use Rattle.format.specs.declared.Summary.{Summary}
 use Rattle.format.specs.declared.Kind.TheVariants.{Odrm, Odhe, Ohdr, Odda}
-use Rattle.format.specs.Boxes.{Box, no_box, only, Container}
-use Rattle.format.specs.Judge.{Out, fault, done, read_of}
+use Rattle.format.specs.Boxes.{Box, only, Container}
+use Rattle.format.specs.Judge.{fault, done, read_of}
 use Rattle.format.specs.Report.{summary_of, group, containers_in, eight, answer_of, refused_by}
 use Rattle.format.proofs.Refused.{refused}
 use Rattle.summaries.specs.Contained.{Begun, Listed}
 use Rattle.summaries.proofs.Accepted.{accepted-contained, kept-listed, listed-begun}
 use Rattle.walk.specs.declared.Tally.{Tally}
 use Rattle.walk.specs.declared.Walk.{Walk}
-use Rattle.walk.specs.Keeping.{flat, Holds}
+use Rattle.walk.specs.Keeping.{Holds}
 use Rattle.walk.specs.Walking.{Walked}
 use Rattle.walk.proofs.Steps.{walked-refused, walked-done}
-use Rattle.reading.specs.Answer.{rows_in, room_after, Answered, ReadInto}
+use Rattle.reading.specs.Answer.{Answered}
 
 pub length-group : (xs es os ds : List Box) → length (group xs es os ds) ≡ length xs
 length-group [] es os ds = refl

@@ -1,14 +1,10 @@
 -- What the lent room for rows holds after a reading: nothing is altered where it is refused, and the rows stand there where it is not.
 -- Assumes nothing.
-use mathlib.Core.Path.{◌≡◌, refl, sym, ap, ◌∙◌, subst}
-use mathlib.Core.Logic.{inl, inr}
-use Prim.Native.Nat.{ℕ, ◌+◌, ◌*◌, ◌/◌, ◌≤◌, ◌<◌, min}
+use mathlib.Core.Path.{◌≡◌, refl, sym, ap, ◌∙◌}
+use Prim.Native.Nat.{ℕ, ◌*◌, ◌≤◌}
 use native.Mathlib.Omega.{arith}
 use mathlib.Core.List.{List, [], ◌∷◌, ◌++◌}
 use lib.ListN.{length, take, drop}
-use types.Run.{OneOf}
-use denote.Enum.Declared.{tag_of}
-use Rattle.format.specs.declared.Rule.{Rule}
 use Rattle.format.specs.declared.Rule.TheVariants.{Done}
 use Rattle.format.specs.declared.Reading.{Reading}
 use Rattle.format.specs.Numbers.{number_of}
@@ -17,100 +13,12 @@ use Rattle.format.specs.Judge.{Out, fault, done, read_of}
 use Rattle.format.specs.Report.{answer_of}
 use Rattle.format.proofs.Exact.{reported}
 use Rattle.format.proofs.Refused.{refused}
-use Rattle.format.specs.contracts.Rule as rule
 use Rattle.walk.specs.Keeping.{flat}
 use Rattle.reading.specs.Answer.{rows_in, room_after, Answered, ReadInto}
 
--- ---- the tag of a rule
-
-abbrev Each : (ℕ → Type 0) → List ℕ → Type 0
-Each P [] = Unit {0}
-Each P (k ∷ ks) = P k × Each P ks
-
-at-keys : (P : ℕ → Type 0) (ks : List ℕ) (x : ℕ) → OneOf ks x → Each P ks → P x
-at-keys P [] x o e = absurd o
-at-keys P (k ∷ []) x o e = subst P (sym o) e.0
-at-keys P (k ∷ (j ∷ ks)) x (inl o) e = subst P (sym o) e.0
-at-keys P (k ∷ (j ∷ ks)) x (inr o) e = at-keys P (j ∷ ks) x o e.1
-
-abbrev Some : ℕ → Type 0
-Some n = n ≡ 0 → ⊥
-
--- every rule but the first
-abbrev pub others : List ℕ
-others = 1 ∷ 2 ∷ 3 ∷ 4 ∷ 5 ∷ 6 ∷ 7 ∷ 8 ∷ 9 ∷ 10 ∷ 11 ∷ 12 ∷ 13 ∷ 14 ∷ 15 ∷ 16 ∷ 17 ∷ 18 ∷ 19 ∷ 20 ∷ 21 ∷ 22 ∷ []
-
-not_done : (r : Rule) → OneOf others (tag_of rule.the_type r) → r ≡ Done → ⊥
-not_done r o e =
-    at-keys Some others _ o (
-      (λ z. omega arith),
-      (
-        (λ z. omega arith),
-        (
-          (λ z. omega arith),
-          (
-            (λ z. omega arith),
-            (
-              (λ z. omega arith),
-              (
-                (λ z. omega arith),
-                (
-                  (λ z. omega arith),
-                  (
-                    (λ z. omega arith),
-                    (
-                      (λ z. omega arith),
-                      (
-                        (λ z. omega arith),
-                        (
-                          (λ z. omega arith),
-                          (
-                            (λ z. omega arith),
-                            (
-                              (λ z. omega arith),
-                              (
-                                (λ z. omega arith),
-                                (
-                                  (λ z. omega arith),
-                                  (
-                                    (λ z. omega arith),
-                                    (
-                                      (λ z. omega arith),
-                                      (
-                                        (λ z. omega arith),
-                                        (
-                                          (λ z. omega arith),
-                                          (
-                                            (λ z. omega arith),
-                                            (
-                                              (λ z. omega arith),
-                                              ((λ z. omega arith), tt),
-                                            ),
-                                          ),
-                                        ),
-                                      ),
-                                    ),
-                                  ),
-                                ),
-                              ),
-                            ),
-                          ),
-                        ),
-                      ),
-                    ),
-                  ),
-                ),
-              ),
-            ),
-          ),
-        ),
-      ),
-    )
-    (ap (tag_of rule.the_type) e)
-
 -- ---- refused
 
-pub room-refused : {s room : List ℕ} {r : Reading} {out : List ℕ} → Answered s (rows_in room) r out → OneOf others (tag_of rule.the_type r.refusal.rule) → ReadInto s room r room
+pub room-refused : {s room : List ℕ} {r : Reading} {out : List ℕ} → Answered s (rows_in room) r out → (r.refusal.rule ≡ Done → ⊥) → ReadInto s room r room
 unfolding room_after answer_of
 room-refused {s} {room} {r} a k = record {
   answer = a.answer;
@@ -119,7 +27,7 @@ room-refused {s} {room} {r} a k = record {
   where
     go : (o : Out) → r ≡ answer_of o → room ≡ room_after o room
     go (fault n p) e = refl
-    go (done l) e = absurd (not_done r.refusal.rule k (ap (λ (x : Reading). x.refusal.rule) e))
+    go (done l) e = absurd (k (ap (λ (x : Reading). x.refusal.rule) e))
 
 -- ---- accepted
 

@@ -10,6 +10,7 @@ ghost use Rattle.reading.specs.Answer.{rows_in, Answered, ReadInto};
 use format::{Reading, Refusal, Rule};
 
 // The rule of a number that reading gives.
+#[tactic(auto, unfolding(format::specs::Numbers::rule_of))]
 fn rule_of(number: usize) -> Rule
     requires { number ≤ 13 }
     ensures { result ≡ rule_of number }

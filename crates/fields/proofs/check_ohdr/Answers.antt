@@ -9,11 +9,11 @@ use Rattle.fields.proofs.check_ohdr.Goals as goal
 pub returns-then-not-is_textual : goal.returns-then-not-is_textual
 returns-then-not-is_textual c =
     let e : c.is_textual.result ≡ textual (textual_headers c.args.b.now) =
-        headers_read c.read_2-id.ensures c.read_2.ensures c.read_2-2.ensures (omega arith) c.is_textual.ensures in
+    headers_read c.read_2-id.ensures c.read_2.ensures c.read_2-2.ensures (omega arith) c.is_textual.ensures in
     λ m p. grind (arith, common_steps, fault_of_ohdr)
 
 pub returns : goal.returns
 returns c =
     let e : c.is_textual.result ≡ textual (textual_headers c.args.b.now) =
-        headers_read c.read_2-id.ensures c.read_2.ensures c.read_2-2.ensures (omega arith) c.is_textual.ensures in
+    headers_read c.read_2-id.ensures c.read_2.ensures c.read_2-2.ensures (omega arith) c.is_textual.ensures in
     λ m p. grind (arith, common_steps, fault_of_ohdr)
