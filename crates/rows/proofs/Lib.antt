@@ -1,3 +1,2 @@
-pub mod FoundRows
-pub mod Laws
-pub mod Over
+mod Laws
+mod Over

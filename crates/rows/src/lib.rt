@@ -93,6 +93,7 @@ pub fn read(file: &[u8], rows: &mut [Row]) -> Reading
     ensures { ReadRows file.now rows.old result rows.new }
 {
     let found = find_rows(file, rows.len());
+    let reading = found.reading;
     store(rows, found);
-    found.reading
+    reading
 }
