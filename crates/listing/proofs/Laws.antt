@@ -1,11 +1,10 @@
 -- The rows that reading leaves in its room are those of the file's listing. Assumes nothing.
 use mathlib.Core.Path.{◌≡◌, refl, ap, ◌∙◌}
-use Prim.Native.Nat.{ℕ, ◌≤◌, ◌<◌, min}
+use Prim.Native.Nat.{ℕ, min}
 use native.Mathlib.Omega.{arith}
 use mathlib.Core.List.{List, [], ◌∷◌, ◌++◌}
 use lib.ListN.{length, drop, length-map}
 use lib.Seq.{take_at}
-use borrow.Author.Tests.{lt-ltb, le-ltb}
 use Rattle.format.specs.declared.Row.{Row}
 use Rattle.format.specs.declared.Reading.{Reading}
 use Rattle.format.specs.Boxes.{Box}
@@ -14,9 +13,7 @@ use Rattle.format.specs.Report.{row_of, rows, answer_of}
 use Rattle.format.proofs.Exact.{reported}
 use Rattle.walk.specs.Keeping.{flat}
 use Rattle.reading.specs.Answer.{rows_in, room_after, ReadInto}
-use Rattle.text.specs.Put.{Laid}
-use Rattle.text.specs.Text.{listing_of, boxes_of, file_text, unread_text, rows_from, shown}
-use Rattle.listing.specs.Printed.{printed}
+use Rattle.text.specs.Text.{listing_of, boxes_of, file_text, rows_from, shown}
 
 -- four numbers for each box are its row
 rows-flat : (log : List Box) (l : List ℕ) → rows_from (flat log ++ l) ≡ rows log ++ rows_from l
@@ -40,11 +37,3 @@ file-text {s} {room} {room'} {r} k h =
     let a : r ≡ answer_of (read_of 256 s) = k.answer ∙ rw cap in
     let b : room' ≡ room_after (read_of 256 s) room = k.rows ∙ rw cap in
     rw (a, b, shown-rows s room (read_of 256 s) refl)
-
-pub printed-unread : (s : List ℕ) {o p : List ℕ} {n : ℕ} → 65536 < length s → Laid unread_text o p n → Laid (printed s) o p n
-unfolding printed
-printed-unread s h k = rw (lt-ltb 65536 (length s) h) k
-
-pub printed-file : (s : List ℕ) {o p : List ℕ} {n : ℕ} → length s ≤ 65536 → Laid (file_text s) o p n → Laid (printed s) o p n
-unfolding printed
-printed-file s h k = rw (le-ltb 65536 (length s) h) k

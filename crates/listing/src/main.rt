@@ -5,6 +5,9 @@ ghost use Rattle.text.specs.Put.{Laid};
 ghost use Rattle.text.specs.Text.{file_text};
 ghost use Rattle.listing.specs.Printed.{printed};
 
+use std::io;
+use std::io::Read;
+
 // Writes the listing of a file into `out`.
 fn list(file: &[u8], out: &mut [u8]) -> usize
     ensures { Laid (file_text file.now) out.old out.new result }
@@ -15,6 +18,7 @@ fn list(file: &[u8], out: &mut [u8]) -> usize
 }
 
 // Writes what is printed of an input into `out`.
+#[tactic(auto, unfolding(crate::specs::Printed::printed))]
 fn print(input: &[u8], out: &mut [u8]) -> usize
     ensures { Laid (printed input.now) out.old out.new result }
 {
@@ -24,10 +28,11 @@ fn print(input: &[u8], out: &mut [u8]) -> usize
     list(input, out)
 }
 
-fn main() {
-    let mut space = [0u8; 65537];
-    let n = io::read_full(0, &mut space);
+// One byte more than the longest file that is listed shows that the input is longer, and no further byte is read.
+fn main(rt: HostRuntime) -> io::Result<()> {
+    let mut input = Vec::new(rt.alloc());
+    rt.stdin().take(65537).read_to_end(&mut input)?;
     let mut out = [0u8; 19627];
-    let k = print(&space[..n], &mut out);
-    io::write_all(1, &out[..k]);
+    let k = print(input.as_slice(), &mut out);
+    rt.write_all(&out[..k])
 }

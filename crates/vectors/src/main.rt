@@ -5,6 +5,12 @@
 ghost use Rattle.std.specs.Prelude.{◌≤◌};
 
 use format::Reading;
+use std::io::Read;
+use std::rt::Files;
+use std::{env, fs, io};
+
+// A file longer than this is cut off here.
+const MOST_BYTES: u64 = 65536;
 
 fn digit(b: u8) -> usize
     ensures { result ≤ 15 }
@@ -16,31 +22,41 @@ fn number(word: &[u8; 3]) -> usize {
     digit(word[0]) * 100 + digit(word[1]) * 10 + digit(word[2])
 }
 
-fn field(name: &[u8], value: usize) {
-    io::write_all(1, name);
-    io::print_decimal(1, value as u64);
+// The first three bytes of a text, with 0 for each that it lacks.
+fn first_three(text: &str) -> [u8; 3] {
+    let mut word = [0u8; 3];
+    for (to, from) in word.iter_mut().zip(text.as_bytes()) {
+        *to = *from;
+    }
+    word
 }
 
-fn row(room: &[usize; 1200], i: usize)
+fn field(rt: &impl Print, name: &[u8], value: usize) -> io::Result<()> {
+    rt.write_all(name)?;
+    rt.print(value)
+}
+
+fn row(rt: &impl Print, room: &[usize; 1200], i: usize) -> io::Result<()>
     requires { i ≤ 299 }
 {
     let k = i * 4;
-    field(b"row=", room[k]);
-    field(b",", room[k + 1]);
-    field(b",", room[k + 2]);
-    io::write_all(1, b",");
-    io::print_hex(1, room[k + 3] as u64, 8);
-    io::write_all(1, b"\n");
+    field(rt, b"row=", room[k])?;
+    field(rt, b",", room[k + 1])?;
+    field(rt, b",", room[k + 2])?;
+    rt.write_all(b",")?;
+    let kind = room[k + 3];
+    println!(rt; "{kind:08x}")
 }
 
-fn rows(room: &[usize; 1200], boxes: usize) {
+fn rows(rt: &impl Print, room: &[usize; 1200], boxes: usize) -> io::Result<()> {
     let mut i: usize = 0;
     while i < 300 {
         if i < boxes {
-            row(room, i);
+            row(rt, room, i)?;
         }
         i += 1;
     }
+    Ok(())
 }
 
 // Whether the numbers of the room from there on are still the 7 that they were.
@@ -56,22 +72,23 @@ fn is_kept(room: &[usize; 1200], from: usize) -> bool {
 }
 
 // Says so if reading altered more of the room than the rows it counts.
-fn check_room(room: &[usize; 1200], boxes: usize) {
+fn check_room(rt: &impl Print, room: &[usize; 1200], boxes: usize) -> io::Result<()> {
     if boxes < 301 {
         if !is_kept(room, boxes * 4) {
-            io::write_all(1, b"altered\n");
+            rt.write_all(b"altered\n")?;
         }
     }
+    Ok(())
 }
 
-fn answer(r: Reading) {
-    field(b" boxes=", r.boxes);
-    field(b" containers=", r.containers);
-    field(b" mutable=", r.mdri);
-    field(b" rights=", r.rights);
-    field(b" free=", r.free);
-    field(b" transaction=", r.transaction);
-    io::write_all(1, b"\n");
+fn answer(rt: &impl Print, r: Reading) -> io::Result<()> {
+    field(rt, b" boxes=", r.boxes)?;
+    field(rt, b" containers=", r.containers)?;
+    field(rt, b" mutable=", r.mdri)?;
+    field(rt, b" rights=", r.rights)?;
+    field(rt, b" free=", r.free)?;
+    field(rt, b" transaction=", r.transaction)?;
+    rt.write_all(b"\n")
 }
 
 // Reads with only the first rows of the room lent, or with all of it if there are no more.
@@ -83,48 +100,44 @@ fn read(file: &[u8], room: &mut [usize], lent: usize) -> Reading {
     reading::read_rows(file, &mut room[..numbers])
 }
 
-fn report(file: &[u8], lent: usize) {
+fn report(rt: &impl Print, file: &[u8], lent: usize) -> io::Result<()> {
     let mut room = [7usize; 1200];
     let r = read(file, &mut room, lent);
     let refusal = r.refusal;
     let rule = refusal.rule;
     let verdict = format::number(rule);
-    field(b" verdict=", verdict as usize);
+    field(rt, b" verdict=", verdict as usize)?;
     if verdict != 0 {
-        field(b" place=", refusal.place);
-        io::write_all(1, b"\n");
-        check_room(&room, 0);
-        return;
+        field(rt, b" place=", refusal.place)?;
+        rt.write_all(b"\n")?;
+        return check_room(rt, &room, 0);
     }
-    answer(r);
-    rows(&room, r.boxes);
-    check_room(&room, r.boxes);
+    answer(rt, r)?;
+    rows(rt, &room, r.boxes)?;
+    check_room(rt, &room, r.boxes)
 }
 
-// The file that argument i names, with as many rows as argument j says.
-fn one(i: usize, j: usize) {
-    let mut word = [0u8; 3];
-    os::arg(j, &mut word);
-    let lent = number(&word);
-    let mut path = io::buffer();
-    let length = os::arg(i, &mut path);
-    io::write_all(1, &path[..length]);
-    let fd = os::open_read(&path[..length]);
-    if fd < 0 {
-        io::write_all(1, b" cannot open\n");
-        return;
-    }
-    let mut file = io::large_buffer();
-    let n = io::read_full(fd, &mut file);
-    report(&file[..n], lent);
-    libc::close(fd);
+// The file of that name, with as many rows as the word says.
+fn one<R: Files + Print + Alloc>(rt: &R, name: &str, word: &str) -> io::Result<()> {
+    let lent = number(&first_three(word));
+    rt.write_all(name.as_bytes())?;
+    let Ok(file) = fs::open(rt, name) else {
+        return rt.write_all(b" cannot open\n");
+    };
+    let mut bytes = Vec::new(rt.alloc());
+    file.take(MOST_BYTES).read_to_end(&mut bytes)?;
+    report(rt, bytes.as_slice(), lent)
 }
 
-fn main() {
-    let pairs = os::arg_count() / 2;
-    let mut i: usize = 0;
-    while i < pairs {
-        one(2 * i + 1, 2 * i + 2);
-        i += 1;
+// Argument 0 is the program's own name. The last name may stand alone: its word is then empty.
+fn main(rt: HostRuntime) -> io::Result<()> {
+    let words: Vec<String> = env::args(&rt)?.skip(1).collect(rt.alloc())?;
+    for pair in words.chunks(2) {
+        let word = match pair.get(1) {
+            Some(word) => word.as_str(),
+            None => "",
+        };
+        one(&rt, pair[0].as_str(), word)?;
     }
+    Ok(())
 }
