@@ -1,6 +1,6 @@
 -- From a reading in scratch rows to the bytes of an answer. Assumes nothing.
 use mathlib.Core.Path.{◌≡◌, refl, sym, ap, ◌∙◌}
-use Prim.Native.Nat.{ℕ, ◌+◌, ◌*◌, ◌-◌, ◌≤◌}
+use Prim.Native.Nat.{ℕ, ◌+◌, ◌*◌, ◌≤◌}
 use native.Mathlib.Omega.{arith}
 use mathlib.Core.List.{List, [], ◌∷◌, ◌++◌, append_assoc}
 use lib.ListN.{length, take, drop}
@@ -63,13 +63,10 @@ done-rule {s} {cap} {r} a z = go (read_of cap s) refl
         absurd (omega (arith, f.range))
     go (done l) e = ap (λ (x : Reading). x.refusal.rule) (a.answer ∙ ap answer_of e)
 
-pub stays : (answer : List ℕ) {s out : List ℕ} {r : Reading} {n : ℕ} → Answered s (rows_lent (length answer)) r out → n ≡ number_of r.refusal.rule → (n ≡ 0 → ⊥) → Told s answer n answer
+pub stays : (o : Out) (answer : List ℕ) → (number_of (answer_of o).refusal.rule ≡ 0 → ⊥) → answer_after o answer ≡ answer
 unfolding answer_after answer_of
-stays answer {s} {out} {r} {n} a e f = record { number = e ∙ ap (λ (x : Reading). number_of x.refusal.rule) a.answer; bytes = go (read_of (rows_lent (length answer)) s) a.answer }
-  where
-    go : (o : Out) → r ≡ answer_of o → answer ≡ answer_after o answer
-    go (fault k p) q = refl
-    go (done l) q = absurd (f (e ∙ ap (λ (x : Reading). number_of x.refusal.rule) q))
+stays (fault k p) answer f = refl
+stays (done l) answer f = absurd (f refl)
 
 -- ---- accepted
 

@@ -1,6 +1,6 @@
 -- File A of document 01 in an answer that has room for its seven rows and two bytes more, and File A with a row too few, computed. Assumes nothing.
 use mathlib.Core.Path.{◌≡◌, refl}
-use mathlib.Core.List.{List, [], ◌∷◌, ◌++◌}
+use mathlib.Core.List.{[], ◌∷◌, ◌++◌}
 use lib.ListN.{replicate}
 use Rattle.numbers.specs.Big.{num, be}
 use Rattle.strings.specs.Same.{same}

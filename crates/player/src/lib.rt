@@ -173,7 +173,7 @@ fn read_within(file: &[u8], rows: usize, scratch: &mut [usize]) -> Reading
 }
 
 // Reads a file for a player. The answer gets the reading and the rows counted; where the file is refused it stays as it is.
-
+#[tactic(auto, using(crate::proofs::Calls::stays))]
 pub fn dcf_read(file: &[u8], answer: &mut [u8]) -> u32
     ensures { Told file.now answer.old result answer.new }
 {
