@@ -8,18 +8,15 @@ use lib.ListN.{length, take, drop}
 use lib.Seq.{length-slice}
 use lib.Dec.{eqb}
 use borrow.Author.Tests.{lt-ltb, le-ltb, ne_eqb}
-use denote.Ref.{Bor}
-use denote.Enum.Declared.{tag_of}
+use Rattle.std.specs.Borrow.{Bor}
 use Rattle.strings.specs.declared.Found.{Found}
 use Rattle.strings.specs.declared.Found.TheVariants.{At, Nothing}
 use Rattle.strings.specs.Headers.{textual, Answers}
-use Rattle.strings.specs.contracts.Found as found
 use Rattle.strings.proofs.Laws.{textual-good}
 use Rattle.format.specs.declared.Rule.TheVariants.{Done}
 use Rattle.format.specs.declared.Reading.{Reading}
 use Rattle.format.specs.declared.Summary.{Summary}
 use Rattle.format.specs.declared.Stretch.{Stretch}
-use Rattle.format.specs.Fields.{textual_headers}
 use Rattle.format.specs.Boxes.{Box}
 use Rattle.format.specs.Judge.{Out, fault, done, read_of}
 use Rattle.format.specs.Report.{no_stretch, containers_in, bytes_in, answer_of}
@@ -28,7 +25,7 @@ use Rattle.format.proofs.Refused.{refused}
 use Rattle.stretches.specs.Given.{refusal_of, log_of, PartOf}
 use Rattle.stretches.specs.Content.{unless_no_container, content_refusal, content_of}
 use Rattle.stretches.specs.Header.{value_in, found_number, found_in, value_at, textual_header_refusal, textual_header_of, HeadersIn}
-use Rattle.stretches.proofs.Readings.{summary_at, done-accepted, Counted, counted, content-inside, headers-inside, headers-textual}
+use Rattle.stretches.proofs.Readings.{summary_at, done-accepted, Counted, content-inside, headers-inside, headers-textual}
 use Rattle.stretches.proofs.Entries.{found-value, value-inside}
 
 -- ---- a part of a lent slice
@@ -124,8 +121,8 @@ module _ {s : List ℕ} {r : Reading} {i : ℕ} (c : Counted s r i) where
     pub header_refused : f ≡ Nothing → 22 ≡ textual_header_refusal s i name
     header_refused m = ap found_number (sym m) ∙ header-number
 
-    pub header-given : found_number f ≡ 0 → 0 ≡ textual_header_refusal s i name
-    header-given m = sym m ∙ header-number
+    pub header-given : {a n : ℕ} → f ≡ At a n → 0 ≡ textual_header_refusal s i name
+    header-given m = ap found_number (sym m) ∙ header-number
 
     pub header-missing : f ≡ Nothing → textual_header_of s i name ≡ no_stretch
     unfolding textual_header_of
@@ -143,15 +140,6 @@ module _ {s : List ℕ} {r : Reading} {i : ℕ} (c : Counted s r i) where
         let h = headers-in in
         let v : a + n ≤ length (bytes_in s (summary_at r i).headers) = value-inside name h.textual (sym e ∙ m) in
         omega (arith, h.inside, length-slice (summary_at r i).headers.offset ((summary_at r i).headers.offset + (summary_at r i).headers.length) s h.inside)
-
--- what the `else` of a `let Found::At(..)` knows is the tag
-pub not_found : (f : Found) → tag_of found.the_type f ≡ 1 → f ≡ Nothing
-not_found (At a n) e = absurd (omega arith)
-not_found Nothing e = refl
-
-pub is_found : (f : Found) → tag_of found.the_type f ≡ 0 → found_number f ≡ 0
-is_found (At a n) e = refl
-is_found Nothing e = absurd (omega arith)
 
 -- the part of the file that is searched
 pub part-textual : {s : List ℕ} {p : Stretch} → HeadersIn s p → textual (take (p.offset + p.length - p.offset) (drop p.offset s)) ≡ true

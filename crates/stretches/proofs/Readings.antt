@@ -1,17 +1,13 @@
 -- What a reading's answer tells: the number of a refusal, and the containers of an accepted file. Assumes nothing.
 use mathlib.Core.Path.{◌≡◌, refl, sym, ap, ◌∙◌, subst}
-use mathlib.Core.Logic.{inl, inr}
 use Prim.Native.Nat.{ℕ, zero, suc, ◌+◌, ◌≤◌, ◌<◌}
 use native.Mathlib.Omega.{arith}
 use mathlib.Core.Bool.{Bool, true, false}
 use mathlib.Core.List.{List, [], ◌∷◌, ◌++◌, map}
 use lib.ListN.{length, get_or, length-map, get_or-append}
 use lib.Dec.{eqb}
-use package.types.Run.{OneOf}
-use denote.Enum.Declared.{tag_of}
 use Rattle.numbers.specs.Choice.{pick}
 use Rattle.strings.specs.Headers.{Each, Textual}
-use Rattle.format.specs.declared.Rule.{Rule}
 use Rattle.format.specs.declared.Rule.TheVariants.{Done}
 use Rattle.format.specs.declared.Kind.{Kind}
 use Rattle.format.specs.declared.Reading.{Reading}
@@ -28,23 +24,12 @@ use Rattle.format.specs.Report.{no_summary, summary_of, containers_in, accepted_
 use Rattle.format.specs.Standing.{HeaderStands}
 use Rattle.format.proofs.Exact.{reported}
 use Rattle.format.proofs.Refused.{refused}
-use Rattle.format.specs.contracts.Rule as rule
 use Rattle.summaries.specs.Contained.{Contained, no_container}
 use Rattle.summaries.proofs.Accepted.{accepted-contained}
-use Rattle.reading.proofs.Rooms.{others}
 use Rattle.stretches.specs.Given.{refusal_of}
 use Rattle.stretches.specs.Content.{container_at}
 
 -- ---- refused, and accepted
-
-least : (ks : List ℕ) (x : ℕ) → OneOf ks x → Each (λ k. 1 ≤ k) ks → 1 ≤ x
-least [] x o e = absurd o
-least (k ∷ []) x o e = omega (arith, e.0)
-least (k ∷ (j ∷ ks)) x (inl o) e = omega (arith, e.0)
-least (k ∷ (j ∷ ks)) x (inr o) e = least (j ∷ ks) x o e.1
-
-not_done : (r : Rule) → OneOf others (tag_of rule.the_type r) → r ≡ Done → ⊥
-not_done r o e = let l = least others (tag_of rule.the_type r) o (omega arith) in omega (arith, ap (tag_of rule.the_type) e)
 
 -- the boxes of an accepted file
 pub record Accepted (s : List ℕ) (r : Reading) : Type 0 where
@@ -54,13 +39,13 @@ pub record Accepted (s : List ℕ) (r : Reading) : Type 0 where
 
 module _ (s : List ℕ) {r : Reading} (a : r ≡ answer_of (read_of 256 s)) where
   -- a reading that is not done has the number of its rule, and nothing that follows is asked
-  pub stopped : OneOf others (tag_of rule.the_type r.refusal.rule) → (f : List Box → ℕ) → number_of r.refusal.rule ≡ refusal_of (read_of 256 s) f
+  pub stopped : (r.refusal.rule ≡ Done → ⊥) → (f : List Box → ℕ) → number_of r.refusal.rule ≡ refusal_of (read_of 256 s) f
   unfolding answer_of refusal_of
   stopped k f = go (read_of 256 s) refl
     where
       go : (o : Out) → read_of 256 s ≡ o → number_of r.refusal.rule ≡ refusal_of o f
       go (fault n p) e = rw a (refused 256 s n p e).number
-      go (done l) e = absurd (not_done r.refusal.rule k (ap (λ (x : Reading). x.refusal.rule) (a ∙ ap answer_of e)))
+      go (done l) e = absurd (k (ap (λ (x : Reading). x.refusal.rule) (a ∙ ap answer_of e)))
 
   accepted-as : (log : List Box) → read_of 256 s ≡ done log → Accepted s r
   unfolding answer_of
