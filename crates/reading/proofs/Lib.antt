@@ -1,4 +1,3 @@
-pub mod Below
 pub mod Answers
 pub mod Copies
 pub mod Rooms

@@ -1,6 +1,6 @@
--- The first n of a list replaced: one step, and the length.
+-- The first n of a list replaced: one step.
 use mathlib.Core.Path.{◌≡◌, refl, ap}
-use Prim.Native.Nat.{ℕ, zero, suc, ◌+◌, ◌≤◌, ◌<◌}
+use Prim.Native.Nat.{ℕ, zero, suc, ◌+◌, ◌<◌}
 use native.Mathlib.Nat.{not-suc-le-zero, le_of_suc-le-suc}
 use native.Mathlib.Numerals.{add-one}
 use mathlib.Core.List.{List, [], ◌∷◌}
@@ -17,9 +17,3 @@ over-suc (suc i) (x ∷ xs) (y ∷ ys) d h k = ap (λ (l : List Row). x ∷ l) (
 -- a turn of the loop: its store takes i rows replaced to i + 1
 pub over-more : (i : ℕ) (xs ys : List Row) (d : Row) → i < length xs → i < length ys → set (over i xs ys) i (get_or xs i d) ≡ over (i + 1) xs ys
 over-more i xs ys d h k = rw add-one (over-suc i xs ys d h k)
-
-pub over-length : (i : ℕ) (xs ys : List Row) → i ≤ length xs → i ≤ length ys → length (over i xs ys) ≡ length ys
-over-length zero xs ys h k = refl
-over-length (suc i) [] ys h k = absurd (not-suc-le-zero h)
-over-length (suc i) (x ∷ xs) [] h k = absurd (not-suc-le-zero k)
-over-length (suc i) (x ∷ xs) (y ∷ ys) h k = ap suc (over-length i xs ys (le_of_suc-le-suc h) (le_of_suc-le-suc k))

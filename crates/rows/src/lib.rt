@@ -8,7 +8,7 @@ ghost use Rattle.rows.specs.Finding.{row_at, rows_from, filled, find_of, over, R
 use format::{Reading, Row};
 
 // What a reading finds: its answer, and a row for each box; the unused rows are 0.
-#[derive(Drop)]
+#[derive(Clone, Copy)]
 pub struct Found {
     pub reading: Reading,
     pub rows: [Row; 256],
@@ -93,7 +93,6 @@ pub fn read(file: &[u8], rows: &mut [Row]) -> Reading
     ensures { ReadRows file.now rows.old result rows.new }
 {
     let found = find_rows(file, rows.len());
-    let reading = found.reading;
     store(rows, found);
-    reading
+    found.reading
 }

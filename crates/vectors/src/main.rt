@@ -2,15 +2,12 @@
 // tests/vectors.py writes the files, the arguments and what has to be printed.
 #![tactic(auto)]
 
-ghost use Rattle.std.specs.Prelude.{◌≤◌};
+ghost use Rattle.std.specs.Prelude.{◌≤◌, length, IfOk};
 
 use format::Reading;
 use std::io::Read;
 use std::rt::Files;
 use std::{env, fs, io};
-
-// A file longer than this is cut off here.
-const MOST_BYTES: u64 = 65536;
 
 fn digit(b: u8) -> usize
     ensures { result ≤ 15 }
@@ -117,27 +114,44 @@ fn report(rt: &impl Print, file: &[u8], lent: usize) -> io::Result<()> {
     check_room(rt, &room, r.boxes)
 }
 
-// The file of that name, with as many rows as the word says.
-fn one<R: Files + Print + Alloc>(rt: &R, name: &str, word: &str) -> io::Result<()> {
+// Reads until the room is full or the file ends, and answers how many bytes were read.
+fn read_full<R: Read>(file: &mut R, room: &mut [u8]) -> io::Result<usize>
+    ensures { IfOk result (λ n. n ≤ length room.new) }
+{
+    let mut done: usize = 0;
+    while done < room.len() {
+        let n = file.read(&mut room[done..])?;
+        if n == 0 {
+            break;
+        }
+        done += n;
+    }
+    Ok(done)
+}
+
+// The file of that name, with as many rows as the word says. Of a longer file it reads 65,536 bytes.
+fn one<R: Files + Print>(rt: &R, name: &str, word: &str) -> io::Result<()> {
     let lent = number(&first_three(word));
     rt.write_all(name.as_bytes())?;
-    let Ok(file) = fs::open(rt, name) else {
+    let Ok(mut file) = fs::open(rt, name) else {
         return rt.write_all(b" cannot open\n");
     };
-    let mut bytes = Vec::new(rt.alloc());
-    file.take(MOST_BYTES).read_to_end(&mut bytes)?;
-    report(rt, bytes.as_slice(), lent)
+    let mut room = [0u8; 65536];
+    let n = read_full(&mut file, &mut room)?;
+    report(rt, &room[..n], lent)
 }
 
 // Argument 0 is the program's own name. The last name may stand alone: its word is then empty.
 fn main(rt: HostRuntime) -> io::Result<()> {
-    let words: Vec<String> = env::args(&rt)?.skip(1).collect(rt.alloc())?;
-    for pair in words.chunks(2) {
-        let word = match pair.get(1) {
-            Some(word) => word.as_str(),
-            None => "",
-        };
-        one(&rt, pair[0].as_str(), word)?;
+    let mut first: Option<String> = None;
+    for word in env::args(&rt)?.skip(1) {
+        match first.take() {
+            Some(name) => one(&rt, name.as_str(), word.as_str())?,
+            None => first = Some(word),
+        }
     }
-    Ok(())
+    match first {
+        Some(name) => one(&rt, name.as_str(), ""),
+        None => Ok(()),
+    }
 }

@@ -4,5 +4,4 @@ pub mod Counts
 pub mod Bounds
 pub mod Numbers
 pub mod Steps
-pub mod Free
 pub mod Known

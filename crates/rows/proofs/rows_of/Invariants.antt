@@ -4,10 +4,8 @@ use Prim.Native.Nat.{◌≤◌, ◌-◌}
 use Rattle.rows.specs.Finding.{rows_from, filled}
 use Rattle.rows.proofs.rows_of.Given as goal
 
--- ARGS invariant-loop ['numbers', 'n', 'all₀', 'i₀', 'all', 'i']
 abbrev pub invariant-loop-i : goal.invariant-loop-i
 invariant-loop-i l = (l.i ≤ l.n) × (l.all ≡ filled (rows_from l.i l.numbers))
 
--- ARGS decreases-loop ['numbers', 'n', 'all₀', 'i₀', 'all', 'i']
 abbrev pub decreases-loop-i : goal.decreases-loop-i
 decreases-loop-i l = l.n - l.i

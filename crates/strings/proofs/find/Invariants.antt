@@ -4,10 +4,8 @@ use lib.ListN.{length}
 use Rattle.strings.proofs.Search.{Left}
 use Rattle.strings.proofs.find.Given as goal
 
--- ARGS invariant-loop ['field', 'name', 'at₀', 'at']
 abbrev pub invariant-loop-at : goal.invariant-loop-at
 invariant-loop-at l = Left l.field l.name l.at
 
--- ARGS decreases-loop ['field', 'name', 'at₀', 'at']
 abbrev pub decreases-loop-at : goal.decreases-loop-at
 decreases-loop-at l = length l.field - l.at

@@ -4,10 +4,8 @@ use lib.ListN.{length}
 use Rattle.strings.proofs.Turns.{IndexLeft}
 use Rattle.strings.proofs.index_of.Given as goal
 
--- ARGS invariant-loop ['s', 'from', 'byte', 'i₀', 'i']
 abbrev pub invariant-loop-i : goal.invariant-loop-i
 invariant-loop-i l = IndexLeft l.s l.from l.byte l.i
 
--- ARGS decreases-loop ['s', 'from', 'byte', 'i₀', 'i']
 abbrev pub decreases-loop-i : goal.decreases-loop-i
 decreases-loop-i l = length l.s - l.i

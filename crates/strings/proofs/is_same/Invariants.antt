@@ -4,10 +4,8 @@ use lib.ListN.{length}
 use Rattle.strings.proofs.Turns.{SameLeft}
 use Rattle.strings.proofs.is_same.Given as goal
 
--- ARGS invariant-loop ['x', 'y', 'i₀', 'i']
 abbrev pub invariant-loop-i : goal.invariant-loop-i
 invariant-loop-i l = SameLeft l.x l.y l.i
 
--- ARGS decreases-loop ['x', 'y', 'i₀', 'i']
 abbrev pub decreases-loop-i : goal.decreases-loop-i
 decreases-loop-i l = length l.x - l.i

@@ -4,10 +4,8 @@ use lib.ListN.{length}
 use Rattle.strings.proofs.Turns.{NameLeft}
 use Rattle.strings.proofs.is_same_name.Given as goal
 
--- ARGS invariant-loop ['x', 'y', 'k₀', 'k']
 abbrev pub invariant-loop-k : goal.invariant-loop-k
 invariant-loop-k l = NameLeft l.x l.y l.k
 
--- ARGS decreases-loop ['x', 'y', 'k₀', 'k']
 abbrev pub decreases-loop-k : goal.decreases-loop-k
 decreases-loop-k l = length l.x - l.k

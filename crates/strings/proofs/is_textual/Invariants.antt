@@ -4,10 +4,8 @@ use lib.ListN.{length}
 use Rattle.strings.proofs.Turns.{PartLeft}
 use Rattle.strings.proofs.is_textual.Given as goal
 
--- ARGS invariant-loop ['s', 'p₀', 'i₀', 'p', 'i']
 abbrev pub invariant-loop-i : goal.invariant-loop-i
 invariant-loop-i l = PartLeft l.s l.p l.i
 
--- ARGS decreases-loop ['s', 'p₀', 'i₀', 'p', 'i']
 abbrev pub decreases-loop-i : goal.decreases-loop-i
 decreases-loop-i l = length l.s - l.i
