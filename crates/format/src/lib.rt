@@ -1,12 +1,14 @@
 // The numbers given back, and what a reading gives: rows, summaries and totals. The definitions of reading stand in specs/.
 #![tactic(auto)]
 
-ghost use Rattle.std.specs.Prelude.{◌≡◌};
+ghost use Rattle.std.specs.Prelude.{◌≡◌, ◌+◌, ◌≤◌, length};
 ghost use Rattle.format.specs.Numbers.{number_of};
+ghost use Rattle.format.specs.Report.{bytes_in};
 
 // The broken rule (document 01, Numbers given back); number_of has the paper's number of each.
-#[derive(Clone, Copy)]
+#[derive(Clone, Copy, PartialEq, Eq, Default)]
 pub enum Rule {
+    #[default]
     Done,
     FileTooLong,
     NoHeader,
@@ -33,14 +35,14 @@ pub enum Rule {
 }
 
 // The broken rule beside the place: the offset of the box where it broke.
-#[derive(Clone, Copy)]
+#[derive(Clone, Copy, PartialEq, Eq, Default)]
 pub struct Refusal {
     pub rule: Rule,
     pub place: usize,
 }
 
 // Where a box stands: at the top of the file, or in the run of a box of this type.
-#[derive(Clone, Copy)]
+#[derive(Clone, Copy, PartialEq, Eq)]
 pub enum Place {
     Top,
     InOdrm,
@@ -50,7 +52,7 @@ pub enum Place {
 }
 
 // The rows of the table of kinds: the six types, those that count only in their place, and the others.
-#[derive(Clone, Copy)]
+#[derive(Clone, Copy, PartialEq, Eq)]
 pub enum Kind {
     Ftyp,
     Odrm,
@@ -65,7 +67,7 @@ pub enum Kind {
 }
 
 // What a run has had before a box: how many boxes, how many odrm, and whether an mdri and an odtt.
-#[derive(Clone, Copy)]
+#[derive(Clone, Copy, PartialEq, Eq, Default)]
 pub struct Seen {
     pub boxes: usize,
     pub odrms: usize,
@@ -74,7 +76,7 @@ pub struct Seen {
 }
 
 // Where a run stands: its place, its depth, and the offset of the box that it is in.
-#[derive(Clone, Copy)]
+#[derive(Clone, Copy, PartialEq, Eq)]
 pub struct Spot {
     pub place: Place,
     pub depth: usize,
@@ -82,13 +84,13 @@ pub struct Spot {
 }
 
 // The two lengths of a content: with the IV, and without it.
-#[derive(Clone, Copy)]
+#[derive(Clone, Copy, PartialEq, Eq, Default)]
 pub struct DataLength(pub u64);
 
-#[derive(Clone, Copy)]
+#[derive(Clone, Copy, PartialEq, Eq, Default)]
 pub struct PlaintextLength(pub u64);
 
-#[derive(Clone, Copy)]
+#[derive(Clone, Copy, PartialEq, Eq, Default)]
 pub struct Row {
     pub offset: usize,
     pub size: usize,
@@ -97,20 +99,20 @@ pub struct Row {
 }
 
 // A full box's row and its flags.
-#[derive(Clone, Copy)]
+#[derive(Clone, Copy, PartialEq, Eq, Default)]
 pub struct Full {
     pub row: Row,
     pub flags: usize,
 }
 
 // Bytes of the file.
-#[derive(Clone, Copy)]
+#[derive(Clone, Copy, PartialEq, Eq, Default)]
 pub struct Stretch {
     pub offset: usize,
     pub length: usize,
 }
 
-#[derive(Clone, Copy)]
+#[derive(Clone, Copy, PartialEq, Eq, Default)]
 pub struct Summary {
     pub odrm: Full,
     pub odhe: Full,
@@ -128,7 +130,7 @@ pub struct Summary {
 }
 
 // What reading a file answers. Where it is refused, all but the refusal is 0.
-#[derive(Clone, Copy)]
+#[derive(Clone, Copy, PartialEq, Eq, Default)]
 pub struct Reading {
     pub refusal: Refusal,
     pub boxes: usize,
@@ -139,6 +141,26 @@ pub struct Reading {
     pub free: usize,
     pub transaction: usize,
 }
+
+impl From<Rule> for u32 {
+    ghost from_gives = { λ rule n. n ≡ number_of rule };
+
+    fn from(rule: Rule) -> u32 {
+        number(rule)
+    }
+}
+
+impl Stretch {
+    // The bytes of a file that it names.
+    pub fn of(self, file: &[u8]) -> &[u8]
+        requires { self.offset + self.length ≤ length file.now }
+        ensures { result.now ≡ bytes_in file.now self }
+    {
+        let Stretch { offset, length } = self;
+        &file[offset..offset + length]
+    }
+}
+
 // The paper's number of a rule.
 pub fn number(rule: Rule) -> u32
     ensures { result ≡ number_of rule }
