@@ -1,16 +1,16 @@
 -- What a header that was read says, where it is kept and where it is refused. Assumes nothing.
-use mathlib.Core.Path.{◌≡◌, refl}
+use mathlib.Core.Path.{◌≡◌, sym, ap}
 use Prim.Native.Nat.{ℕ}
-use mathlib.Core.Bool.{Bool, true, false}
 use mathlib.Core.List.{List}
 use lib.ListN.{length}
-use lib.Dec.{eqb}
-use borrow.Author.Tests.{eqb-true, eqb-false}
-use Rattle.numbers.specs.Choice.{pick}
+use Rattle.std.specs.Prelude.{Ok, Err}
 use Rattle.format.specs.declared.Place.{Place}
+use Rattle.format.specs.declared.Rule.{Rule}
 use Rattle.format.specs.Header.{header_length, size_of, type_of, header_fault}
+use Rattle.format.specs.Numbers.{rule_of}
+use Rattle.format.proofs.Broken.{answered, broken}
 use Rattle.boxes.specs.declared.Head.{Head}
-use Rattle.boxes.specs.Head.{bad_head, good_head, head_in}
+use Rattle.boxes.specs.Head.{head_in}
 
 pub record KeptHead (c : Place) (b : List ℕ) (h : Head) : Type 0 where
   pub fine : header_fault c b ≡ 0
@@ -18,21 +18,12 @@ pub record KeptHead (c : Place) (b : List ℕ) (h : Head) : Type 0 where
   pub skip : h.skip ≡ header_length b
   pub boxtype : h.boxtype ≡ type_of b
 
-abbrev picked : Place → List ℕ → Bool → Head
-picked c b t = pick t (good_head (size_of c (length b) b) (header_length b) (type_of b)) (bad_head (header_fault c b))
-
-pub kept-head : (c : Place) (b : List ℕ) (h : Head) → h ≡ head_in c b → h.number ≡ 0 → KeptHead c b h
+pub kept-head : (c : Place) (b : List ℕ) (h : Head) → head_in c b ≡ Ok h → KeptHead c b h
 unfolding head_in
-kept-head c b h e k = rw e (go (eqb (header_fault c b) 0) refl (rw e at k))
-  where
-    go : (t : Bool) → eqb (header_fault c b) 0 ≡ t → (picked c b t).number ≡ 0 → KeptHead c b (picked c b t)
-    go true f k = record { fine = eqb-true _ _ f; size = refl; skip = refl; boxtype = refl }
-    go false f k = absurd (eqb-false _ _ f k)
+kept-head c b h e =
+    let a = answered (header_fault c b) _ h e in
+    record { fine = a.0; size = ap (λ (x : Head). x.size) (sym a.1); skip = ap (λ (x : Head). x.skip) (sym a.1); boxtype = ap (λ (x : Head). x.boxtype) (sym a.1) }
 
-pub refused-head : (c : Place) (b : List ℕ) (h : Head) → h ≡ head_in c b → (h.number ≡ 0 → ⊥) → header_fault c b ≡ h.number
+pub refused-head : (c : Place) (b : List ℕ) (r : Rule) → head_in c b ≡ Err r → (header_fault c b ≡ 0 → ⊥) × (rule_of (header_fault c b) ≡ r)
 unfolding head_in
-refused-head c b h e k = rw e (go (eqb (header_fault c b) 0) refl (rw e at k))
-  where
-    go : (t : Bool) → eqb (header_fault c b) 0 ≡ t → ((picked c b t).number ≡ 0 → ⊥) → header_fault c b ≡ (picked c b t).number
-    go true f k = absurd (k refl)
-    go false f k = refl
+refused-head c b r e = broken (header_fault c b) _ r e

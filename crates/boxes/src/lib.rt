@@ -1,14 +1,14 @@
 // Headers and kinds: how a header is decoded, which kind a box has in its place, and which box may stand where in a run.
 #![tactic(auto)]
 
-ghost use Rattle.std.specs.Prelude.{◌≡◌, ◌≤◌, ◌<◌, length};
-ghost use Rattle.std.proofs.Math.Seq.{slice};
+ghost use Rattle.std.specs.Prelude.{◌≡◌, ◌<◌, Some, None};
+ghost use Rattle.numbers.specs.Choice.{pick};
 ghost use Rattle.format.specs.declared.Place.{Place};
 ghost use Rattle.format.specs.Kinds.{kind_of, other_in, holds_run, inside, is_six};
-ghost use Rattle.format.specs.Judge.{nothing, note, no_row, misplaced, missing};
-ghost use Rattle.boxes.specs.Head.{bad_head, wrong_size, sized_head, head_in};
+ghost use Rattle.format.specs.Judge.{note, no_row, misplaced, missing};
+ghost use Rattle.boxes.specs.Head.{wrong_size, sized_head, head_in};
 
-use format::{Kind, Place, Seen};
+use format::{Kind, Place, Rule, Seen};
 
 // The four letters of each name, as one number.
 const FTYP: usize = 0x66747970;
@@ -29,76 +29,57 @@ const ODRB: usize = 0x6f647262;
 
 const UDTA: usize = 0x75647461;
 
-// A header: the number that it breaks (2, 3 or 4), or 0 and the box's size, the header's own length and the type.
+// A header: the box's size, the header's own length and the type.
 #[derive(Clone, Copy)]
 pub struct Head {
-    pub number: usize,
     pub size: usize,
     pub skip: usize,
     pub boxtype: usize,
-}
-
-fn bad(number: usize) -> Head
-    ensures { result ≡ bad_head number }
-{
-    Head {
-        number: number,
-        size: 0,
-        skip: 0,
-        boxtype: 0,
-    }
 }
 
 // Number 3: a size below its header's length, which sizes 0 and 2 to 7 are too, or an odda in short form.
 fn is_wrong_size(size: usize, skip: usize, boxtype: usize) -> bool
     ensures { result ≡ wrong_size size skip boxtype }
 {
-    if size < skip {
-        return true;
-    }
-    if boxtype == ODDA {
-        return skip == 8;
-    }
-    false
+    size < skip || boxtype == ODDA && skip == 8
 }
 
 // The header whose form is known: 3 for a size that is not allowed, 4 for a box that ends after its parent.
 #[tactic(auto, unfolding(crate::specs::Head::sized_head))]
-fn sized(left: usize, size: usize, skip: usize, boxtype: usize) -> Head
+fn sized(left: usize, size: usize, skip: usize, boxtype: usize) -> Result<Head, Rule>
     ensures { result ≡ sized_head left size skip boxtype }
 {
     if is_wrong_size(size, skip, boxtype) {
-        return bad(3);
+        return Err(Rule::BadSize);
     }
     if left < size {
-        return bad(4);
+        return Err(Rule::PastParent);
     }
-    Head {
-        number: 0,
-        size: size,
-        skip: skip,
-        boxtype: boxtype,
-    }
+    Ok(Head {
+        size,
+        skip,
+        boxtype,
+    })
 }
 
-// The header at an offset of a run that ends at `end`. The only place where size, form and type are decoded.
-pub fn read_head(s: &[u8], at: usize, end: usize) -> Head
-    requires { (at ≤ end) × (end ≤ length s.now) }
-    ensures { (c : Place) → result ≡ head_in c (slice at end s.now) }
+// The header at the start of what is left of a run. The only place where size, form and type are decoded.
+#[tactic(auto, unfolding(crate::specs::Head::head_in, crate::specs::Head::sized_head, format::specs::Header::header_fault, format::specs::Header::header_length, format::specs::Header::size_of, format::specs::Header::type_of, format::specs::Numbers::rule_of))]
+pub fn read_head(run: &[u8]) -> Result<Head, Rule>
+    ensures { (c : Place) → result ≡ head_in c run.now }
 {
-    let left = end - at;
+    let left = run.len();
     if left < 8 {
-        return bad(2);
+        return Err(Rule::NoHeader);
     }
-    let size = numbers::read_4(s, at);
-    let boxtype = numbers::read_4(s, at + 4);
+    let size = numbers::read::<4>(run, 0);
+    let boxtype = numbers::read::<4>(run, 4);
     if size != 1 {
         return sized(left, size, 8, boxtype);
     }
     if left < 16 {
-        return bad(2);
+        return Err(Rule::NoHeader);
     }
-    let long = numbers::read_8(s, at + 8);
+    let long = numbers::read::<8>(run, 8);
     sized(left, long, 16, boxtype)
 }
 
@@ -137,41 +118,17 @@ pub fn kind_of(place: Place, boxtype: usize) -> Kind
     }
 }
 
-// The table of kinds: whether a run of boxes follows the fields.
-#[tactic(auto, unfolding(format::specs::Kinds::holds_run))]
-pub fn holds_run(kind: Kind) -> bool
-    ensures { result ≡ holds_run kind }
+// Where the boxes of the run stand that follows the fields of a kind (the table of kinds), if one does.
+#[tactic(auto, unfolding(format::specs::Kinds::holds_run, format::specs::Kinds::inside))]
+pub fn inside_of(kind: Kind) -> Option<Place>
+    ensures { result ≡ pick (holds_run kind) (Some (inside kind)) None }
 {
     match kind {
-        Kind::Odrm | Kind::Odhe | Kind::Ohdr | Kind::Mdri => true,
-        _ => false,
-    }
-}
-
-// Where the boxes of the run stand; of a kind with no run it is never asked.
-#[tactic(auto, unfolding(format::specs::Kinds::inside))]
-pub fn inside_of(kind: Kind) -> Place
-    ensures { result ≡ inside kind }
-{
-    match kind {
-        Kind::Odrm => Place::InOdrm,
-        Kind::Odhe => Place::InOdhe,
-        Kind::Ohdr => Place::InOhdr,
-        Kind::Mdri => Place::InMdri,
-        _ => Place::Top,
-    }
-}
-
-// What a run has had at its start.
-#[tactic(auto, unfolding(format::specs::Judge::nothing))]
-pub fn no_boxes() -> Seen
-    ensures { result ≡ nothing }
-{
-    Seen {
-        boxes: 0,
-        odrms: 0,
-        mdri: false,
-        odtt: false,
+        Kind::Odrm => Some(Place::InOdrm),
+        Kind::Odhe => Some(Place::InOdhe),
+        Kind::Ohdr => Some(Place::InOhdr),
+        Kind::Mdri => Some(Place::InMdri),
+        _ => None,
     }
 }
 
@@ -181,22 +138,24 @@ pub fn noted(n: Seen, kind: Kind) -> Seen
     requires { (n.boxes < 65536) × (n.odrms < 65536) }
     ensures { result ≡ note n kind }
 {
-    let mut m = n;
-    m.boxes = n.boxes + 1;
+    let boxes = n.boxes + 1;
     match kind {
-        Kind::Odrm => {
-            m.odrms = n.odrms + 1;
-            m
-        }
-        Kind::Mdri => {
-            m.mdri = true;
-            m
-        }
-        Kind::Odtt => {
-            m.odtt = true;
-            m
-        }
-        _ => m,
+        Kind::Odrm => Seen {
+            boxes,
+            odrms: n.odrms + 1,
+            ..n
+        },
+        Kind::Mdri => Seen {
+            boxes,
+            mdri: true,
+            ..n
+        },
+        Kind::Odtt => Seen {
+            boxes,
+            odtt: true,
+            ..n
+        },
+        _ => Seen { boxes, ..n },
     }
 }
 
@@ -205,13 +164,7 @@ pub fn noted(n: Seen, kind: Kind) -> Seen
 pub fn has_no_row(cap: usize, n: Seen, rows: usize, kind: Kind) -> bool
     ensures { result ≡ no_row cap n rows kind }
 {
-    if cap <= rows {
-        return true;
-    }
-    match kind {
-        Kind::Odrm => 8 <= n.odrms,
-        _ => false,
-    }
+    cap <= rows || matches!(kind, Kind::Odrm) && 8 <= n.odrms
 }
 
 // "Others" are boxes of any type but these six.
@@ -219,10 +172,7 @@ pub fn has_no_row(cap: usize, n: Seen, rows: usize, kind: Kind) -> bool
 fn is_six(kind: Kind) -> bool
     ensures { result ≡ is_six kind }
 {
-    match kind {
-        Kind::Odtt | Kind::Odrb | Kind::Udta | Kind::Other => false,
-        _ => true,
-    }
+    !matches!(kind, Kind::Odtt | Kind::Odrb | Kind::Udta | Kind::Other)
 }
 
 // At the top: ftyp first; no odrm and no second mdri after an mdri; others anywhere after ftyp.
@@ -231,10 +181,7 @@ fn is_misplaced_at_top(n: Seen, kind: Kind) -> bool
     ensures { result ≡ misplaced Place.Top n kind }
 {
     if n.boxes == 0 {
-        return match kind {
-            Kind::Ftyp => false,
-            _ => true,
-        };
+        return !matches!(kind, Kind::Ftyp);
     }
     match kind {
         Kind::Odrm | Kind::Mdri => n.mdri,

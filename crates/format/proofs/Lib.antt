@@ -4,6 +4,7 @@ pub mod Trees
 pub mod Worked
 pub mod Vectors
 pub mod Passing
+pub mod Broken
 pub mod Verdicts
 pub mod Saying
 pub mod Logs

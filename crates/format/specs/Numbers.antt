@@ -1,5 +1,6 @@
 -- Document 01, "Numbers given back": the number of each rule, and the rule of each number. Assumes nothing.
-use Rattle.std.specs.Prelude.{ℕ, List, [], ◌∷◌, get_or}
+use Rattle.std.specs.Prelude.{ℕ, List, [], ◌∷◌, get_or, eqb, Result, Ok, Err}
+use Rattle.numbers.specs.Choice.{pick}
 use Rattle.format.specs.declared.Rule.{Rule}
 use Rattle.format.specs.declared.Rule.TheVariants.{Done, FileTooLong, NoHeader, BadSize, PastParent, NoRow, WrongPlace, FieldsCut, BadVersion, BadMethod, BadLength, BadHeaders, BadData, SameContentId, NoMdri, RightsLength, NoRoom, NoRights, NoOdtt, BadRoom, OutputTooShort, NoContainer, NoTextualHeader}
 
@@ -36,3 +37,7 @@ rules =
 
 unfoldable pub rule_of : ℕ → Rule
 rule_of n = get_or rules n Done
+
+-- an answer where the number of the rule that is broken is none; else the rule
+abbrev pub unless_broken : {A : Type 0} → ℕ → A → Result A Rule
+unless_broken n x = pick (eqb n 0) (Ok x) (Err (rule_of n))
