@@ -1,15 +1,17 @@
-// A checker of the fields for each kind: the first of the numbers 7 to 12 that the bytes after a header break, or 0.
-#![tactic(auto)]
+// A checker of the fields for each kind: the first of the rules 7 to 12 that the bytes after a header break.
+#![tactic(auto, unfolding(crate::specs::Fault::field_verdict, crate::specs::Fault::field_fault, format::specs::Kinds::fields_length, format::specs::Judge::cut, format::specs::Judge::ragged, format::specs::Judge::newer, format::specs::Judge::wrong_method, format::specs::Judge::wrong_length, format::specs::Judge::malformed, format::specs::Judge::wrong_data, format::specs::Kinds::same_kind, format::specs::Kinds::kind_number, format::specs::Numbers::rule_of))]
 
-ghost use Rattle.std.specs.Prelude.{◌≡◌, ℕ, ◌≤◌, length};
-ghost use Rattle.numbers.specs.Read.{Read};
+ghost use Rattle.std.specs.Prelude.{◌≡◌, ℕ, ◌≤◌, length, eqb};
+ghost use Rattle.numbers.specs.Choice.{pick};
+ghost use Rattle.numbers.specs.Big.{num};
 ghost use Rattle.format.specs.declared.Kind.{Kind};
 ghost use Rattle.format.specs.declared.PlaintextLength.{PlaintextLength};
+ghost use Rattle.format.specs.Numbers.{unless_broken};
 ghost use Rattle.format.specs.Kinds.{fields_length};
 ghost use Rattle.format.specs.Judge.{takes, outside, agrees};
-ghost use Rattle.fields.specs.Fault.{field_fault};
+ghost use Rattle.fields.specs.Fault.{field_verdict};
 
-use format::{DataLength, Kind, PlaintextLength};
+use format::{DataLength, Kind, PlaintextLength, Rule};
 
 // The letters of odcf, as one number.
 const ODCF: usize = 0x6f646366;
@@ -19,28 +21,26 @@ const ODCF: usize = 0x6f646366;
 fn takes_padding(method: usize, padding: usize) -> bool
     ensures { result ≡ takes method padding }
 {
-    if method == 1 {
-        return padding == 1;
-    }
-    if method == 0 || method == 2 {
-        return padding == 0;
-    }
-    false
+    matches!((method, padding), (0, 0) | (1, 1) | (2, 0))
 }
 
-// A full box's version; its three flag bytes come after it.
-fn version(b: &[u8]) -> usize
+// A full box's version is 0; its three flag bytes come after it.
+#[tactic(auto, unfolding(format::specs::Numbers::rule_of))]
+fn check_version(b: &[u8]) -> Result<(), Rule>
     requires { 4 ≤ length b.now }
-    ensures { Read 1 b.now 0 result }
+    ensures { result ≡ unless_broken (pick (eqb (num 1 b.now 0) 0) 0 8) tt }
 {
-    numbers::read_1(b, 0)
+    if numbers::read::<1>(b, 0) != 0 {
+        return Err(Rule::BadVersion);
+    }
+    Ok(())
 }
 
 // Whether the length of a ContentType or ContentID is not in 1 to most (document 01, Bounds).
 fn is_outside(most: usize, length: usize) -> bool
     ensures { result ≡ outside most length }
 {
-    length < 1 || most < length
+    !(1..=most).contains(&length)
 }
 
 // Whether a data length agrees with a method and a plaintext length (document 01, Boxes). D is taken apart, since a sum over P could wrap.
@@ -68,138 +68,114 @@ pub fn is_agreeing(method: usize, plaintext: PlaintextLength, length: DataLength
 }
 
 // ftyp: 7 where it is cut or its brands are not whole, 8 where its major brand is not odcf.
-#[tactic(auto, using(crate::proofs::Tests::fault_of_ftyp))]
-pub fn check_ftyp(b: &[u8]) -> usize
-    ensures { (m : ℕ) (p : PlaintextLength) → result ≡ field_fault Kind.Ftyp m p b.now }
+pub fn check_ftyp(b: &[u8]) -> Result<(), Rule>
+    ensures { (m : ℕ) (p : PlaintextLength) → result ≡ field_verdict Kind.Ftyp m p b.now }
 {
-    if b.len() < 8 {
-        return 7;
+    if b.len() < 8 || b.len() % 4 != 0 {
+        return Err(Rule::FieldsCut);
     }
-    if b.len() % 4 != 0 {
-        return 7;
+    if numbers::read::<4>(b, 0) != ODCF {
+        return Err(Rule::BadVersion);
     }
-    if numbers::read_4(b, 0) != ODCF {
-        return 8;
-    }
-    0
+    Ok(())
 }
 
 // odrm and odrb, whose fields are a full box's version and flags alone: 7 where they are cut, 8 where the version is not 0.
-#[tactic(auto, using(crate::proofs::Tests::fault_of_odrm, crate::proofs::Tests::fault_of_odrb))]
-pub fn check_full(b: &[u8]) -> usize
-    ensures by_index { (m : ℕ) (p : PlaintextLength) → result ≡ field_fault Kind.Odrm m p b.now }
-    ensures by_index_2 { (m : ℕ) (p : PlaintextLength) → result ≡ field_fault Kind.Odrb m p b.now }
+pub fn check_full(b: &[u8]) -> Result<(), Rule>
+    ensures by_index { (m : ℕ) (p : PlaintextLength) → result ≡ field_verdict Kind.Odrm m p b.now }
+    ensures by_index_2 { (m : ℕ) (p : PlaintextLength) → result ≡ field_verdict Kind.Odrb m p b.now }
 {
     if b.len() < 4 {
-        return 7;
+        return Err(Rule::FieldsCut);
     }
-    if version(b) != 0 {
-        return 8;
-    }
-    0
+    check_version(b)
 }
 
 // odhe: 7 where its ContentType runs past the box, 8 where the version is not 0, 10 for the ContentType's length.
-#[tactic(auto, using(crate::proofs::Tests::fault_of_odhe))]
-pub fn check_odhe(b: &[u8]) -> usize
-    ensures { (m : ℕ) (p : PlaintextLength) → result ≡ field_fault Kind.Odhe m p b.now }
+pub fn check_odhe(b: &[u8]) -> Result<(), Rule>
+    ensures { (m : ℕ) (p : PlaintextLength) → result ≡ field_verdict Kind.Odhe m p b.now }
 {
     if b.len() < 5 {
-        return 7;
+        return Err(Rule::FieldsCut);
     }
-    let length = numbers::read_1(b, 4);
+    let length = numbers::read::<1>(b, 4);
     if b.len() < 5 + length {
-        return 7;
+        return Err(Rule::FieldsCut);
     }
-    if version(b) != 0 {
-        return 8;
-    }
+    check_version(b)?;
     if is_outside(255, length) {
-        return 10;
+        return Err(Rule::BadLength);
     }
-    0
+    Ok(())
 }
 
 // ohdr: 7 where its strings run past the box, then 8, 9 for method or padding, 10 for the ContentID's length, 11 for textual headers.
-#[tactic(auto, using(crate::proofs::Tests::fault_of_ohdr))]
-pub fn check_ohdr(b: &[u8]) -> usize
-    ensures { (m : ℕ) (p : PlaintextLength) → result ≡ field_fault Kind.Ohdr m p b.now }
+pub fn check_ohdr(b: &[u8]) -> Result<(), Rule>
+    ensures { (m : ℕ) (p : PlaintextLength) → result ≡ field_verdict Kind.Ohdr m p b.now }
 {
     if b.len() < 20 {
-        return 7;
+        return Err(Rule::FieldsCut);
     }
-    let id = numbers::read_2(b, 14);
-    let start = 20 + id + numbers::read_2(b, 16);
-    let end = start + numbers::read_2(b, 18);
+    let id = numbers::read::<2>(b, 14);
+    let start = 20 + id + numbers::read::<2>(b, 16);
+    let end = start + numbers::read::<2>(b, 18);
     if b.len() < end {
-        return 7;
+        return Err(Rule::FieldsCut);
     }
-    if version(b) != 0 {
-        return 8;
-    }
-    if !takes_padding(numbers::read_1(b, 4), numbers::read_1(b, 5)) {
-        return 9;
+    check_version(b)?;
+    if !takes_padding(numbers::read::<1>(b, 4), numbers::read::<1>(b, 5)) {
+        return Err(Rule::BadMethod);
     }
     if is_outside(256, id) {
-        return 10;
+        return Err(Rule::BadLength);
     }
     if !strings::is_textual(&b[start..end]) {
-        return 11;
+        return Err(Rule::BadHeaders);
     }
-    0
+    Ok(())
 }
 
 // odda: 7, 8, and 12 where D is longer than the rest or does not agree with its container's method and plaintext length.
-#[tactic(auto, using(crate::proofs::Tests::fault_of_odda))]
-pub fn check_odda(b: &[u8], method: usize, plaintext: PlaintextLength) -> usize
-    ensures { result ≡ field_fault Kind.Odda method plaintext b.now }
+pub fn check_odda(b: &[u8], method: usize, plaintext: PlaintextLength) -> Result<(), Rule>
+    ensures { result ≡ field_verdict Kind.Odda method plaintext b.now }
 {
     if b.len() < 12 {
-        return 7;
+        return Err(Rule::FieldsCut);
     }
-    if version(b) != 0 {
-        return 8;
-    }
-    let length = numbers::read_8(b, 4);
+    check_version(b)?;
+    let length = numbers::read::<8>(b, 4);
     if b.len() - 12 < length {
-        return 12;
+        return Err(Rule::BadData);
     }
     if !is_agreeing(method, plaintext, DataLength(length as u64)) {
-        return 12;
+        return Err(Rule::BadData);
     }
-    0
+    Ok(())
 }
 
 // odtt: 7 unless 16 bytes follow the version and flags, 8 where the version is not 0.
-#[tactic(auto, using(crate::proofs::Tests::fault_of_odtt))]
-pub fn check_odtt(b: &[u8]) -> usize
-    ensures { (m : ℕ) (p : PlaintextLength) → result ≡ field_fault Kind.Odtt m p b.now }
+pub fn check_odtt(b: &[u8]) -> Result<(), Rule>
+    ensures { (m : ℕ) (p : PlaintextLength) → result ≡ field_verdict Kind.Odtt m p b.now }
 {
     if b.len() != 20 {
-        return 7;
+        return Err(Rule::FieldsCut);
     }
-    if version(b) != 0 {
-        return 8;
-    }
-    0
+    check_version(b)
 }
 
-// The first of the numbers 7 to 12 that the bytes after a header break (document 01, Numbers given back), or 0.
-#[tactic(auto, using(crate::proofs::Tests::fault_of_mdri, crate::proofs::Tests::fault_of_udta, crate::proofs::Tests::fault_of_other))]
-pub fn check(b: &[u8], kind: Kind, method: usize, plaintext: PlaintextLength) -> usize
-    ensures { result ≡ field_fault kind method plaintext b.now }
+// The first of the rules 7 to 12 that the bytes after a header break (document 01, Numbers given back).
+#[tactic(auto, using(crate::proofs::Tests::verdict_of_mdri, crate::proofs::Tests::verdict_of_udta, crate::proofs::Tests::verdict_of_other))]
+pub fn check(b: &[u8], kind: Kind, method: usize, plaintext: PlaintextLength) -> Result<(), Rule>
+    ensures { result ≡ field_verdict kind method plaintext b.now }
 {
     match kind {
         Kind::Ftyp => check_ftyp(b),
-        Kind::Odrm => check_full(b),
+        Kind::Odrm | Kind::Odrb => check_full(b),
         Kind::Odhe => check_odhe(b),
         Kind::Ohdr => check_ohdr(b),
         Kind::Odda => check_odda(b, method, plaintext),
-        Kind::Mdri => 0,
         Kind::Odtt => check_odtt(b),
-        Kind::Odrb => check_full(b),
-        Kind::Udta => 0,
-        Kind::Other => 0,
+        Kind::Mdri | Kind::Udta | Kind::Other => Ok(()),
     }
 }
 
@@ -211,14 +187,13 @@ pub fn fields_length(b: &[u8], kind: Kind) -> usize
 {
     match kind {
         Kind::Ftyp => 8,
-        Kind::Odrm => 4,
-        Kind::Odhe => 5 + numbers::read_1(b, 4),
-        Kind::Ohdr => 20 + numbers::read_2(b, 14) + numbers::read_2(b, 16) + numbers::read_2(b, 18),
+        Kind::Odrm | Kind::Odrb => 4,
+        Kind::Odhe => 5 + numbers::read::<1>(b, 4),
+        Kind::Ohdr => {
+            20 + numbers::read::<2>(b, 14) + numbers::read::<2>(b, 16) + numbers::read::<2>(b, 18)
+        }
         Kind::Odda => 12,
-        Kind::Mdri => 0,
         Kind::Odtt => 20,
-        Kind::Odrb => 4,
-        Kind::Udta => 0,
-        Kind::Other => 0,
+        Kind::Mdri | Kind::Udta | Kind::Other => 0,
     }
 }
