@@ -1,7 +1,7 @@
 // Headers and kinds: how a header is decoded, which kind a box has in its place, and which box may stand where in a run.
 #![tactic(auto)]
 
-ghost use Rattle.std.specs.Prelude.{◌≡◌, ◌<◌, Some, None};
+ghost use Rattle.std.specs.Prelude.{◌≡◌, ◌<◌, ◌≤◌, length, Some, None, IfOk};
 ghost use Rattle.numbers.specs.Choice.{pick};
 ghost use Rattle.format.specs.declared.Place.{Place};
 ghost use Rattle.format.specs.Kinds.{kind_of, other_in, holds_run, inside, is_six};
@@ -47,7 +47,8 @@ fn is_wrong_size(size: usize, skip: usize, boxtype: usize) -> bool
 // The header whose form is known: 3 for a size that is not allowed, 4 for a box that ends after its parent.
 #[tactic(auto, unfolding(crate::specs::Head::sized_head))]
 fn sized(left: usize, size: usize, skip: usize, boxtype: usize) -> Result<Head, Rule>
-    ensures { result ≡ sized_head left size skip boxtype }
+    ensures gives { result ≡ sized_head left size skip boxtype }
+    ensures fits { IfOk result (λ h. (h.skip ≡ skip) × (skip ≤ h.size) × (h.size ≤ left)) }
 {
     if is_wrong_size(size, skip, boxtype) {
         return Err(Rule::BadSize);
@@ -65,7 +66,8 @@ fn sized(left: usize, size: usize, skip: usize, boxtype: usize) -> Result<Head, 
 // The header at the start of what is left of a run. The only place where size, form and type are decoded.
 #[tactic(auto, unfolding(crate::specs::Head::head_in, crate::specs::Head::sized_head, format::specs::Header::header_fault, format::specs::Header::header_length, format::specs::Header::size_of, format::specs::Header::type_of, format::specs::Numbers::rule_of))]
 pub fn read_head(run: &[u8]) -> Result<Head, Rule>
-    ensures { (c : Place) → result ≡ head_in c run.now }
+    ensures gives { (c : Place) → result ≡ head_in c run.now }
+    ensures fits { IfOk result (λ h. (8 ≤ h.skip) × (h.skip ≤ h.size) × (h.size ≤ length run.now)) }
 {
     let left = run.len();
     if left < 8 {

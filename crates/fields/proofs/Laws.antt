@@ -7,6 +7,7 @@ use lib.ListN.{length, take}
 use lib.Seq.{slice, take-take}
 use lib.Dec.{ltb}
 use borrow.Author.Tests.{ltb-false}
+use Rattle.std.specs.Prelude.{Ok}
 use Rattle.numbers.specs.Choice.{pick, pick-zero, either-false}
 use Rattle.numbers.specs.Big.{num}
 use Rattle.numbers.proofs.Laws.{num-take}
@@ -15,7 +16,8 @@ use Rattle.format.specs.declared.Kind.TheVariants.{Ftyp, Odrm, Odhe, Ohdr, Odda,
 use Rattle.format.specs.declared.PlaintextLength.{PlaintextLength}
 use Rattle.format.specs.Kinds.{fields_length, kind_number, same_kind}
 use Rattle.format.specs.Judge.{cut, newer, wrong_method, wrong_length, malformed, wrong_data, again}
-use Rattle.fields.specs.Fault.{field_fault}
+use Rattle.format.proofs.Broken.{answered}
+use Rattle.fields.specs.Fault.{field_fault, field_verdict}
 
 slice-take : (i j n : ℕ) (b : List ℕ) → j ≤ n → slice i j (take n b) ≡ slice i j b
 slice-take i j n b h = rw (take-take j n b)
@@ -76,3 +78,7 @@ unfolding field_fault cut
 fault-fit k m p b e =
     let w = pick-zero (cut k (length b) b) 6 _ e in
     ltb-false (length b) (fields_length k b) (either-false (ltb (length b) (fields_length k b)) _ w.0).0
+
+pub verdict_fit : (k : Kind) (m : ℕ) (p : PlaintextLength) (b : List ℕ) → field_verdict k m p b ≡ Ok tt → fields_length k b ≤ length b
+unfolding field_verdict
+verdict_fit k m p b e = fault-fit k m p b (answered (field_fault k m p b) tt tt e).0

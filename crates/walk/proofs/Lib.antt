@@ -1,7 +1,7 @@
 pub mod Boxing
-pub mod Kept
-pub mod Counts
+pub mod Holding
 pub mod Bounds
+pub mod Counts
+pub mod Known
 pub mod Numbers
 pub mod Steps
-pub mod Known

@@ -21,6 +21,8 @@ use Rattle.format.specs.Boxes.{Box, room}
 use Rattle.format.specs.Judge.{no_row, misplaced, cut, newer, wrong_method, wrong_length, malformed, wrong_data, again, ids, last_ohdr, wrong}
 use Rattle.fields.specs.Fault.{field_fault}
 use Rattle.fields.proofs.Laws.{fault-fields, again-fields, fault-fit}
+use Rattle.format.specs.declared.Row.{Row}
+use Rattle.walk.specs.declared.Kept.{Kept}
 use Rattle.walk.specs.declared.Tally.{Tally}
 use Rattle.walk.specs.Keeping.{ids_in, Holds}
 use Rattle.walk.specs.Walking.{number_in}
@@ -54,12 +56,11 @@ again-tail k m p b l = go (eqb (field_fault k m p b) 0) refl
     go true e = ap (λ (u : Bool). pick u 13 0) (again-fields k l b (fault-fit k m p b (eqb-true F 0 e)))
     go false e = refl
 
-pub number_is : (cap : ℕ) (q : Spot) (n : Seen) (at : ℕ) (b : List ℕ) (fine : header_fault q.place b ≡ 0) (s : List ℕ) (log : List Box) (count : ℕ) (t : Tally)
-    (out marks : List ℕ) → Holds s log count t out marks
-    → wrong cap n log (box_at q at b)
-    ≡ number_in cap q.place n count (kind_in q.place b) t.method t.plaintext (body_of q.place b) (ids_in s marks t.headers)
+pub number_is : (cap : ℕ) (q : Spot) (n : Seen) (at : ℕ) (b : List ℕ) (fine : header_fault q.place b ≡ 0) (s : List ℕ) (log : List Box) (y : Kept)
+    (out : List Row) → Holds s log y out
+    → wrong cap n log (box_at q at b) ≡ number_in cap q.place n (kind_in q.place b) y (body_of q.place b) (ids_in s y.ids y.tally.headers)
 unfolding wrong number_in
-number_is cap q n at b fine s log count t out marks o =
+number_is cap q n at b fine s log y out o =
     let c = cutting q.place b fine in
     let k : Kind = kind_in q.place b in
     let B : List ℕ = body_of q.place b in
@@ -67,8 +68,8 @@ number_is cap q n at b fine s log count t out marks o =
     let p : PlaintextLength = plaintext (last_ohdr log) in
     let x : Box = box_at q at b in
     let f : List ℕ = take (fields_length k B) B in
-    let em : t.method ≡ m = ap (λ (u : Tally). u.method) o.tally in
-    let ep : t.plaintext ≡ p = ap (λ (u : Tally). u.plaintext) o.tally in
+    let em : y.tally.method ≡ m = ap (λ (u : Tally). u.method) o.tally in
+    let ep : y.tally.plaintext ≡ p = ap (λ (u : Tally). u.plaintext) o.tally in
     let tail : ℕ = pick (again k (ids log) f) 13 0 in
     let e1 : pick (cut k (room x) f) 7 (pick (newer k f) 8 (pick (wrong_method k f) 9 (pick (wrong_length k f) 10 (pick (malformed k f) 11 (pick (wrong_data k (room x) m p f) 12 tail)))))
     ≡ pick (eqb (field_fault k m p B) 0) tail (field_fault k m p B) =
@@ -77,7 +78,7 @@ number_is cap q n at b fine s log count t out marks o =
     (ap (λ (i : ℕ). pick (no_row cap n (length log) k) 5 (pick (misplaced q.place n k) 6 i)) (e1 ∙ again-tail k m p B (ids log)))
 
 -- a box that breaks no number has a row, stands where it may, and its fields fit
-pub record None (cap : ℕ) (c : Place) (n : Seen) (rows : ℕ) (k : Kind) (b : List ℕ) : Type 0 where
+pub record Clean (cap : ℕ) (c : Place) (n : Seen) (rows : ℕ) (k : Kind) (b : List ℕ) : Type 0 where
   pub row : no_row cap n rows k ≡ false
   pub few : rows < cap
   pub placed : misplaced c n k ≡ false
@@ -87,29 +88,16 @@ left_over : (cap : ℕ) (n : Seen) (rows : ℕ) (k : Kind) → no_row cap n rows
 unfolding no_row
 left_over cap n rows k e = leb-false cap rows (either-false (leb cap rows) _ e).0
 
-pub none_in : (cap : ℕ) (c : Place) (n : Seen) (rows : ℕ) (k : Kind) (m : ℕ) (p : PlaintextLength) (b : List ℕ) (l : List (List ℕ))
-    → number_in cap c n rows k m p b l ≡ 0 → None cap c n rows k b
+pub none_in : (cap : ℕ) (c : Place) (n : Seen) (k : Kind) (y : Kept) (b : List ℕ) (l : List (List ℕ)) → number_in cap c n k y b l ≡ 0 → Clean cap c n y.count k b
 unfolding number_in
-none_in cap c n rows k m p b l e =
-    let a = pick-zero (no_row cap n rows k) 4 _ e in
+none_in cap c n k y b l e =
+    let a = pick-zero (no_row cap n y.count k) 4 _ e in
     let d = pick-zero (misplaced c n k) 5 _ a.1 in
-    record { row = a.0; few = left_over cap n rows k a.0; placed = d.0; fit = fault-fit k m p b (go (eqb (field_fault k m p b) 0) refl d.1) }
+    record { row = a.0; few = left_over cap n y.count k a.0; placed = d.0; fit = fault-fit k y.tally.method y.tally.plaintext b (go (eqb F 0) refl d.1) }
   where
     F : ℕ
-    F = field_fault k m p b
+    F = field_fault k y.tally.method y.tally.plaintext b
 
     go : (t : Bool) → eqb F 0 ≡ t → pick t (pick (again k l b) 13 0) F ≡ 0 → F ≡ 0
     go true h e = eqb-true F 0 h
     go false h e = e
-
--- the number by its tests
-pub number_by : (cap : ℕ) (c : Place) (n : Seen) (rows : ℕ) (k : Kind) (m : ℕ) (p : PlaintextLength) (b : List ℕ) (l : List (List ℕ)) {t u v : Bool} {f : ℕ}
-    → no_row cap n rows k ≡ t → misplaced c n k ≡ u → field_fault k m p b ≡ f → again k l b ≡ v
-    → pick t 5 (pick u 6 (pick (eqb f 0) (pick v 13 0) f)) ≡ number_in cap c n rows k m p b l
-unfolding number_in
-number_by cap c n rows k m p b l e1 e2 e3 e4 = sym (rw (e1, e2, e3, e4))
-
-pub number-fault : (cap : ℕ) (c : Place) (n : Seen) (rows : ℕ) (k : Kind) (m : ℕ) (p : PlaintextLength) (b : List ℕ) (l : List (List ℕ)) {f : ℕ}
-    → no_row cap n rows k ≡ false → misplaced c n k ≡ false → f ≡ field_fault k m p b → (f ≡ 0 → ⊥) → f ≡ number_in cap c n rows k m p b l
-unfolding number_in
-number-fault cap c n rows k m p b l {f} e1 e2 e3 z = rw (e1, e2, ← e3, ne_eqb f 0 z)

@@ -1,18 +1,19 @@
--- What the walk keeps of the boxes that it has read: a tally by value, a row of four numbers for each box in one lent slice, and in another,
--- the marks, the offset of each odrm (indices 0 to 7) and the offset and length of each ContentID (from index 8 on). Assumes nothing.
-use Rattle.std.specs.Prelude.{◌≡◌, ℕ, zero, suc, ◌+◌, ◌*◌, ◌≤◌, Bool, List, [], ◌∷◌, ◌++◌, map, length, take, get_or, set, leb, eqb}
-use Rattle.std.proofs.Math.Seq.{slice}
+-- What the walk keeps of the boxes that it has read: how many, a tally, the offset of each odrm and the stretch of each ContentID; and a row
+-- for each box in a lent slice. Assumes nothing.
+use Rattle.std.specs.Prelude.{◌≡◌, ℕ, ◌+◌, ◌≤◌, Bool, List, map, length, take, set, eqb}
 use Rattle.numbers.specs.Choice.{pick, both, either}
 use Rattle.format.specs.declared.Place.{Place}
 use Rattle.format.specs.declared.Kind.{Kind}
 use Rattle.format.specs.declared.Kind.TheVariants.{Odrm, Ohdr, Mdri, Odtt, Odrb}
 use Rattle.format.specs.declared.Row.{Row}
+use Rattle.format.specs.declared.Stretch.{Stretch}
 use Rattle.format.specs.Kinds.{FREE, SKIP, same_kind}
 use Rattle.format.specs.Fields.{method, plaintext, id_length}
 use Rattle.format.specs.Boxes.{Box, only}
 use Rattle.format.specs.Judge.{ids, last_ohdr}
-use Rattle.format.specs.Report.{free_total, mdri_at, transaction_at, in_mdri}
+use Rattle.format.specs.Report.{rows, free_total, mdri_at, transaction_at, in_mdri, bytes_in}
 use Rattle.boxes.specs.declared.Head.{Head}
+use Rattle.walk.specs.declared.Kept.{Kept}
 use Rattle.walk.specs.declared.Tally.{Tally}
 
 -- ---- the tally
@@ -34,7 +35,7 @@ unfoldable pub free_at : Place → ℕ → ℕ → Bool
 free_at c type skip = both (in_mdri c) (both (either (eqb type FREE) (eqb type SKIP)) (eqb skip 8))
 
 -- one box more: its place, kind and offset, its header, and the bytes b after that
-unfoldable pub added : Tally → Place → Kind → ℕ → Head → List ℕ → Tally
+abbrev pub added : Tally → Place → Kind → ℕ → Head → List ℕ → Tally
 added t c k at h b = record {
   containers = pick (same_kind k Odrm) (t.containers + 1) t.containers;
   headers = pick (same_kind k Ohdr) (t.headers + 1) t.headers;
@@ -46,40 +47,33 @@ added t c k at h b = record {
   transaction = pick (same_kind k Odtt) (at + h.skip + 4) t.transaction;
 }
 
--- ---- rows
+-- ---- starts and ContentIDs
 
--- four numbers for each box
-abbrev pub flat : List Box → List ℕ
-flat [] = []
-flat (x ∷ xs) = x.at ∷ (x.size ∷ (x.depth ∷ (x.type ∷ flat xs)))
+abbrev pub starts_with : List ℕ → Tally → Kind → ℕ → List ℕ
+starts_with starts t k at = pick (same_kind k Odrm) (set starts t.containers at) starts
 
-abbrev pub set_row : List ℕ → ℕ → Row → List ℕ
-set_row l n row =
-    set (set (set (set l (n * 4) row.offset) (n * 4 + 1) row.size) (n * 4 + 2) row.depth) (n * 4 + 3) row.boxtype
-
--- row n, if there is room for it
-unfoldable pub with_row : List ℕ → ℕ → Row → List ℕ
-with_row l n row = pick (leb (n * 4 + 4) (length l)) (set_row l n row) l
-
--- ---- marks
+-- the fields of the box start at an offset of the file
+abbrev pub ids_with : List Stretch → Tally → Kind → ℕ → List ℕ → List Stretch
+ids_with ids t k from b = pick (same_kind k Ohdr) (set ids t.headers (record { offset = from + 20; length = id_length b })) ids
 
 -- the first n ContentIDs
-unfoldable pub ids_in : List ℕ → List ℕ → ℕ → List (List ℕ)
-ids_in s marks zero = []
-ids_in s marks (suc n) =
-    ids_in s marks n ++ (slice (get_or marks (8 + 2 * n) 0) (get_or marks (8 + 2 * n) 0 + get_or marks (9 + 2 * n) 0) s ∷ [])
+abbrev pub ids_in : List ℕ → List Stretch → ℕ → List (List ℕ)
+ids_in s ids n = map (bytes_in s) (take n ids)
 
--- with one box more, whose bytes b after its header start at an offset of the file
-unfoldable pub marked : List ℕ → Tally → Kind → ℕ → ℕ → List ℕ → List ℕ
-marked marks t k at from b =
-    pick (same_kind k Odrm) (set marks t.containers at)
-    (pick (same_kind k Ohdr) (set (set marks (8 + 2 * t.headers) (from + 20)) (9 + 2 * t.headers) (id_length b)) marks)
+-- ---- all of it
 
--- ---- all of it, of the file s and the boxes of the log
+unfoldable pub with_box : Kept → Place → Kind → ℕ → Head → List ℕ → Kept
+with_box x c k at h b = record {
+  count = x.count + 1;
+  tally = added x.tally c k at h b;
+  starts = starts_with x.starts x.tally k at;
+  ids = ids_with x.ids x.tally k (at + h.skip) b;
+}
 
-pub record Holds (s : List ℕ) (log : List Box) (count : ℕ) (t : Tally) (out marks : List ℕ) : Type 0 where
-  pub number : count ≡ length log
-  pub tally : t ≡ tally_of log
-  pub rows : count * 4 ≤ length out → take (count * 4) out ≡ flat log
-  pub starts : take t.containers marks ≡ map (λ (x : Box). x.at) (only Odrm log)
-  pub names : ids_in s marks t.headers ≡ ids log
+-- of the file s and the boxes of the log, with the rows as far as there is room for them
+pub record Holds (s : List ℕ) (log : List Box) (x : Kept) (out : List Row) : Type 0 where
+  pub number : x.count ≡ length log
+  pub tally : x.tally ≡ tally_of log
+  pub rows : x.count ≤ length out → take x.count out ≡ rows log
+  pub starts : take x.tally.containers x.starts ≡ map (λ (y : Box). y.at) (only Odrm log)
+  pub names : ids_in s x.ids x.tally.headers ≡ ids log

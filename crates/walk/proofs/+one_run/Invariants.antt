@@ -4,13 +4,13 @@ use Rattle.walk.proofs.Steps.{Going}
 use Rattle.walk.proofs.+one_run.Given as goal
 
 abbrev pub decreases-one : goal.decreases-one
-decreases-one l = 2 * (l.end - l.w.at)
+decreases-one l = 2 * (l.scope.end - l.at)
 
 abbrev pub decreases-run : goal.decreases-run
-decreases-run l = 2 * (l.end - l.w.at) + 1
+decreases-run l = 2 * (l.scope.end - l.from) + 1
 
-abbrev pub invariant-run-loop-v : goal.invariant-run-loop-v
-invariant-run-loop-v l = Going l.s l.cap l.end l.q l.initial.out l.initial.marks l.initial.v l.out l.marks l.v l.n
+abbrev pub invariant-run-loop-at : goal.invariant-run-loop-at
+invariant-run-loop-at l = Going l.scope.file.now l.scope.cap l.scope.end l.scope.spot l.fn.from l.fn.kept l.fn.rows l.at l.n l.kept l.rows
 
-abbrev pub decreases-run-loop-v : goal.decreases-run-loop-v
-decreases-run-loop-v l = l.end - l.v.at
+abbrev pub decreases-run-loop-at : goal.decreases-run-loop-at
+decreases-run-loop-at l = l.scope.end - l.at

@@ -1,4 +1,0 @@
-use Rattle.walk.proofs.stop.Goals as goal
-
-pub returns : goal.returns
-returns c = rw c.no_tally-tally.ensures
