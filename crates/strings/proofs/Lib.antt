@@ -1,4 +1,4 @@
 pub mod Laws
-pub mod Turns
+pub mod Library
 pub mod Ranges
 pub mod Search

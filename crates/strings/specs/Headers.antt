@@ -1,12 +1,10 @@
 -- Textual headers (document 01, Boxes): entries ended by a zero byte: a name of one or more token characters, a colon, a value
 -- without zero bytes; an empty field has no entries. Assumes nothing.
-use Rattle.std.specs.Prelude.{◌≡◌, ℕ, ◌+◌, ◌≤◌, Bool, true, false, List, [], ◌∷◌, ◌++◌, length, eqb}
+use Rattle.std.specs.Prelude.{◌≡◌, ℕ, ◌+◌, ◌≤◌, Bool, true, false, List, [], ◌∷◌, ◌++◌, length, eqb, Option, Some, None}
 use Rattle.numbers.specs.Choice.{pick}
 use Rattle.strings.specs.Characters.{token, same_name}
 use Rattle.strings.specs.declared.Part.{Part}
 use Rattle.strings.specs.declared.Part.TheVariants.{Start, Name, Value, Bad}
-use Rattle.strings.specs.declared.Found.{Found}
-use Rattle.strings.specs.declared.Found.TheVariants.{At, Nothing}
 
 -- every element of a list is such
 abbrev pub Each : {A : Type 0} → (A → Type 0) → List A → Type 0
@@ -66,12 +64,12 @@ index z (x ∷ xs) = pick (eqb x z) 0 (index z xs + 1)
 
 -- ---- the value of the first entry of a name: where it starts, counted from the field's start, and its length
 
-unfoldable pub lookup : List ℕ → List Entry → ℕ → Found
-lookup name [] at = Nothing
+unfoldable pub lookup : List ℕ → List Entry → ℕ → Option (ℕ × ℕ)
+lookup name [] at = None
 lookup name (e ∷ es) at =
-    pick (same_name e.name name) (At (at + length e.name + 1) (length e.value))
+    pick (same_name e.name name) (Some (at + length e.name + 1, length e.value))
     (lookup name es (at + length (entry_bytes e)))
 
 -- an answer that is the lookup's, for the good entries that the field is the bytes of
-pub record Answers (field name : List ℕ) (r : Found) : Type 0 where
+pub record Answers (field name : List ℕ) (r : Option (ℕ × ℕ)) : Type 0 where
   pub said : (es : List Entry) → Each GoodEntry es → field ≡ field_of es → r ≡ lookup name es 0

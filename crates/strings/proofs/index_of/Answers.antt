@@ -1,16 +1,15 @@
--- The first such byte of what is left is the first from the start on. Assumes nothing.
-use native.Mathlib.Omega.{arith}
-use Rattle.strings.proofs.Turns.{index-left, index-here, index-later, index-end}
+-- The first such byte is found, or there is none. Assumes nothing.
+use mathlib.Core.Path.{◌≡◌, ◌∙◌}
+use mathlib.Core.Logic.{◌≢◌}
+use borrow.Author.Tests.{tests}
+use Rattle.std.proofs.Common.{rules}
+use Rattle.std.proofs.lemmas.Iterator.{YieldsList-from_slice, IsFirst-from_position}
+use Rattle.strings.proofs.Library.{index_first}
 use Rattle.strings.proofs.index_of.Goals as goal
 
-pub loop-i-init : goal.loop-i-init
-loop-i-init c = index-left
-
-pub returns-then-s-i : goal.returns-then-s-i
-returns-then-s-i c = index-here c.loop-i.invariant (omega arith) c.if-s-i.true
-
-pub loop-i-preserved : goal.loop-i-preserved
-loop-i-preserved c = index-later c.loop-i.invariant (omega arith) c.if-s-i.false
-
 pub returns : goal.returns
-returns c = index-end c.loop-i.invariant (omega arith)
+returns c =
+    c.unwrap_or.ensures
+    ∙ index_first c.args.byte c.args.s.now c.position.result (IsFirst-from_position _ _ _
+    (λ x. x ≡ c.args.byte) (λ x. x ≢ c.args.byte) c.position.ensures.ran
+    (YieldsList-from_slice c.args.s.now cc) (λ x q k. search (rules, tests)) (λ x q k. search (rules, tests)))
