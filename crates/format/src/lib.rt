@@ -151,10 +151,12 @@ impl From<Rule> for u32 {
 }
 
 impl Stretch {
-    // The bytes of a file that it names.
+    // The bytes of a file that it names: that very part of the lent slice.
     pub fn of(self, file: &[u8]) -> &[u8]
         requires { self.offset + self.length ≤ length file.now }
-        ensures { result.now ≡ bytes_in file.now self }
+        ensures block { result.ref_ptr.0 ≡ file.entry.ref_ptr.0 }
+        ensures place { result.ref_ptr.1 ≡ file.entry.ref_ptr.1 + self.offset }
+        ensures bytes { result.now ≡ bytes_in file.now self }
     {
         let Stretch { offset, length } = self;
         &file[offset..offset + length]

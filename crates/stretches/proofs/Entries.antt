@@ -9,8 +9,7 @@ use lib.ListN.{length, drop, length-append}
 use lib.Seq.{slice, take_at, drop_at, drop-append-add}
 use borrow.Author.Tests.{ne_eqb}
 use Rattle.numbers.specs.Choice.{pick}
-use Rattle.strings.specs.declared.Found.{Found}
-use Rattle.strings.specs.declared.Found.TheVariants.{At, Nothing}
+use Rattle.std.specs.Prelude.{Option, Some, None}
 use Rattle.strings.specs.Characters.{same_name}
 use Rattle.strings.specs.Headers.{Each, Entry, GoodEntry, entry_bytes, field_of, Textual, lookup, Answers}
 use Rattle.strings.proofs.Laws.{token-colon, without, entry-split}
@@ -46,10 +45,10 @@ pub entries-of : {s : List ℕ} (t : Textual s) → entries_of s ≡ t.entries
 entries-of {s} t = rw t.bytes (entries-in (length (field_of t.entries)) t.entries t.good (field-length t.entries))
 
 -- what the search answers is the value of the first entry of the name
-pub found-value : {field name : List ℕ} {r : Found} → Textual field → Answers field name r → r ≡ value_in field name
+pub found-value : {field name : List ℕ} {r : Option (ℕ × ℕ)} → Textual field → Answers field name r → r ≡ value_in field name
 found-value {field} {name} t a = a.said t.entries t.good t.bytes ∙ ap (λ (es : List Entry). lookup name es 0) (sym (entries-of t))
 
-lookup-inside : (name : List ℕ) (es : List Entry) (at a n : ℕ) → lookup name es at ≡ At a n → a + n ≤ at + length (field_of es)
+lookup-inside : (name : List ℕ) (es : List Entry) (at a n : ℕ) → lookup name es at ≡ Some (a, n) → a + n ≤ at + length (field_of es)
 unfolding lookup
 lookup-inside name [] at a n e = let z : ◌≡◌ {A = ℕ} 0 1 = cc in absurd (omega arith)
 lookup-inside name (x ∷ es) at a n e = go (same_name x.name name) (lookup-inside name es (at + length (entry_bytes x)) a n) e
@@ -57,16 +56,17 @@ lookup-inside name (x ∷ es) at a n e = go (same_name x.name name) (lookup-insi
     l : length (field_of (x ∷ es)) ≡ length (entry_bytes x) + length (field_of es)
     l = length-append (entry_bytes x) (field_of es)
 
-    go : (b : Bool) → (lookup name es (at + length (entry_bytes x)) ≡ At a n → a + n ≤ at + length (entry_bytes x) + length (field_of es))
-        → pick b (At (at + length x.name + 1) (length x.value)) (lookup name es (at + length (entry_bytes x))) ≡ At a n
+    go : (b : Bool) → (lookup name es (at + length (entry_bytes x)) ≡ Some (a, n) → a + n ≤ at + length (entry_bytes x) + length (field_of es))
+        → pick b (Some (at + length x.name + 1, length x.value)) (lookup name es (at + length (entry_bytes x))) ≡ Some (a, n)
         → a + n ≤ at + length (field_of (x ∷ es))
     go true i f =
-        let u : at + length x.name + 1 ≡ a = cc in
-        let v : length x.value ≡ n = cc in
+        let w : ◌≡◌ {A = ℕ × ℕ} (at + length x.name + 1, length x.value) (a, n) = cc in
+        let u : at + length x.name + 1 ≡ a = ap (λ (p : ℕ × ℕ). p.0) w in
+        let v : length x.value ≡ n = ap (λ (p : ℕ × ℕ). p.1) w in
         omega (arith, l, entry_length x)
     go false i f = omega (arith, l, i f)
 
-pub value-inside : {field : List ℕ} (name : List ℕ) {a n : ℕ} → Textual field → value_in field name ≡ At a n → a + n ≤ length field
+pub value-inside : {field : List ℕ} (name : List ℕ) {a n : ℕ} → Textual field → value_in field name ≡ Some (a, n) → a + n ≤ length field
 value-inside {field} name {a} {n} t e =
     let h = lookup-inside name t.entries 0 a n (ap (λ (es : List Entry). lookup name es 0) (sym (entries-of t)) ∙ e) in
     omega (arith, ap length t.bytes)
@@ -91,7 +91,7 @@ slice-mid p v t a n e f =
 entry-mid : (pre : List ℕ) (x : Entry) (t : List ℕ) → pre ++ (entry_bytes x ++ t) ≡ (pre ++ (x.name ++ (58 ∷ []))) ++ (x.value ++ (0 ∷ t))
 entry-mid pre x t = ap (λ (l : List ℕ). pre ++ l) (entry-split x t) ∙ simp append_assoc
 
-first_of : (name : List ℕ) (es : List Entry) (pre : List ℕ) (at a n : ℕ) → length pre ≡ at → lookup name es at ≡ At a n
+first_of : (name : List ℕ) (es : List Entry) (pre : List ℕ) (at a n : ℕ) → length pre ≡ at → lookup name es at ≡ Some (a, n)
     → FirstOf (pre ++ field_of es) name es a n
 unfolding lookup
 first_of name [] pre at a n l e = let z : ◌≡◌ {A = ℕ} 0 1 = cc in absurd (omega arith)
@@ -100,12 +100,13 @@ first_of name (x ∷ es) pre at a n l e =
     go (same_name x.name name) refl e (first_of name es (pre ++ entry_bytes x) (at + length (entry_bytes x)) a n m)
   where
     go : (b : Bool) → same_name x.name name ≡ b
-        → pick b (At (at + length x.name + 1) (length x.value)) (lookup name es (at + length (entry_bytes x))) ≡ At a n
-        → (lookup name es (at + length (entry_bytes x)) ≡ At a n → FirstOf ((pre ++ entry_bytes x) ++ field_of es) name es a n)
+        → pick b (Some (at + length x.name + 1, length x.value)) (lookup name es (at + length (entry_bytes x))) ≡ Some (a, n)
+        → (lookup name es (at + length (entry_bytes x)) ≡ Some (a, n) → FirstOf ((pre ++ entry_bytes x) ++ field_of es) name es a n)
         → FirstOf (pre ++ field_of (x ∷ es)) name (x ∷ es) a n
     go true h f i =
-        let u : at + length x.name + 1 ≡ a = cc in
-        let v : length x.value ≡ n = cc in
+        let w : ◌≡◌ {A = ℕ × ℕ} (at + length x.name + 1, length x.value) (a, n) = cc in
+        let u : at + length x.name + 1 ≡ a = ap (λ (p : ℕ × ℕ). p.0) w in
+        let v : length x.value ≡ n = ap (λ (p : ℕ × ℕ). p.1) w in
         let k : length (pre ++ (x.name ++ (58 ∷ []))) ≡ a = simp length-append (omega arith) in
         record {
           earlier = [];
@@ -128,24 +129,24 @@ first_of name (x ∷ es) pre at a n l e =
           value = ap (slice a (a + n)) (sym (append_assoc pre (entry_bytes x) (field_of es))) ∙ r.value;
         }
 
-pub first-value : {field : List ℕ} (name : List ℕ) {a n : ℕ} → Textual field → value_in field name ≡ At a n → FirstOf field name (entries_of field) a n
+pub first-value : {field : List ℕ} (name : List ℕ) {a n : ℕ} → Textual field → value_in field name ≡ Some (a, n) → FirstOf field name (entries_of field) a n
 first-value {field} name {a} {n} t e =
     let d = entries-of t in
     let f = first_of name t.entries [] 0 a n refl (ap (λ (es : List Entry). lookup name es 0) (sym d) ∙ e) in
     subst (λ (es : List Entry). FirstOf field name es a n) (sym d) (subst (λ (s : List ℕ). FirstOf s name t.entries a n) (sym t.bytes) f)
 
-none_named : (name : List ℕ) (es : List Entry) (at : ℕ) → lookup name es at ≡ Nothing → Each (λ e. same_name e.name name ≡ false) es
+none_named : (name : List ℕ) (es : List Entry) (at : ℕ) → lookup name es at ≡ None → Each (λ e. same_name e.name name ≡ false) es
 unfolding lookup
 none_named name [] at e = tt
 none_named name (x ∷ es) at e = go (same_name x.name name) refl e (none_named name es (at + length (entry_bytes x)))
   where
     go : (b : Bool) → same_name x.name name ≡ b
-        → pick b (At (at + length x.name + 1) (length x.value)) (lookup name es (at + length (entry_bytes x))) ≡ Nothing
-        → (lookup name es (at + length (entry_bytes x)) ≡ Nothing → Each (λ e. same_name e.name name ≡ false) es)
+        → pick b (Some (at + length x.name + 1, length x.value)) (lookup name es (at + length (entry_bytes x))) ≡ None
+        → (lookup name es (at + length (entry_bytes x)) ≡ None → Each (λ e. same_name e.name name ≡ false) es)
         → (same_name x.name name ≡ false) × Each (λ e. same_name e.name name ≡ false) es
     go true h f i = let z : ◌≡◌ {A = ℕ} 0 1 = cc in absurd (omega arith)
     go false h f i = (h, i f)
 
 -- where nothing is found no entry has the name
-pub no_value : (field name : List ℕ) → value_in field name ≡ Nothing → Each (λ e. same_name e.name name ≡ false) (entries_of field)
+pub no_value : (field name : List ℕ) → value_in field name ≡ None → Each (λ e. same_name e.name name ≡ false) (entries_of field)
 no_value field name e = none_named name (entries_of field) 0 e

@@ -1,7 +1,7 @@
 -- The mdri of an accepted file: its boxes lie end to end behind its header, and every rights object is one of them. Assumes nothing.
 use mathlib.Core.Path.{◌≡◌, refl, sym, ap, ◌∙◌, subst}
 use mathlib.Core.Logic.{◌⊎◌, inl, inr}
-use Prim.Native.Nat.{ℕ, zero, suc, ◌+◌, ◌≤◌}
+use Prim.Native.Nat.{ℕ, ◌+◌, ◌≤◌}
 use native.Mathlib.Omega.{arith}
 use mathlib.Core.Bool.{Bool, true, false}
 use mathlib.Core.List.{List, [], ◌∷◌, ◌++◌, append-nil}
@@ -77,8 +77,8 @@ shut odrb o = refl
 shut udta o = refl
 shut (other o) _ = refl
 
-others-no-mdri : (ts : List ℕ) → Each IsOther ts → NoMdri ts
-others-no-mdri ts o = each_map IsOther (λ t. t ≡ MDRI → ⊥) (λ t p. p.1.1.1.1.1.0) ts o
+others-no_mdri : (ts : List ℕ) → Each IsOther ts → NoMdri ts
+others-no_mdri ts o = each_map IsOther (λ t. t ≡ MDRI → ⊥) (λ t p. p.1.1.1.1.1.0) ts o
 
 -- the run in a box that is no mdri is not mdri's, and has no mdri in it
 record Elsewhere (k : Kind) (ts : List ℕ) : Type 0 where
@@ -90,14 +90,14 @@ unfolding holds_run inside
 elsewhere ftyp ts n h o = clash refl h
 elsewhere odrm ts n h o = record {
   place = λ e. let z : ◌≡◌ {A = ℕ} 0 1 = cc in omega arith;
-  none = rw o.starts ((λ e. omega arith), ((λ e. omega arith), others-no-mdri o.rest o.others));
+  none = rw o.starts ((λ e. omega arith), ((λ e. omega arith), others-no_mdri o.rest o.others));
 }
 elsewhere odhe ts n h o = record { place = λ e. let z : ◌≡◌ {A = ℕ} 0 1 = cc in omega arith; none = go o }
   where
     go : (ts ≡ OHDR ∷ []) ⊎ (ts ≡ OHDR ∷ (UDTA ∷ [])) → NoMdri ts
     go (inl e) = rw e ((λ z. omega arith), tt)
     go (inr e) = rw e ((λ z. omega arith), ((λ z. omega arith), tt))
-elsewhere ohdr ts n h o = record { place = λ e. let z : ◌≡◌ {A = ℕ} 0 1 = cc in omega arith; none = others-no-mdri ts o }
+elsewhere ohdr ts n h o = record { place = λ e. let z : ◌≡◌ {A = ℕ} 0 1 = cc in omega arith; none = others-no_mdri ts o }
 elsewhere odda ts n h o = clash refl h
 elsewhere mdri ts n h o = absurd (n refl)
 elsewhere odtt ts n h o = clash refl h
@@ -159,32 +159,29 @@ chain s q at (node h f k r) p o g w a d = clash (shut (named q.place (type_of h)
 
 -- ---- the run at the top: its mdri, or none
 
--- ts: the types of the run that starts at an offset and has the boxes of the log
-pub record Found (s : List ℕ) (at : ℕ) (ts : List ℕ) (log : List Box) : Type 0 where
+-- the one mdri of a file among its mdris ms, with its boxes end to end, and its rights objects os
+pub record MdriOf (s : List ℕ) (ms os : List Box) : Type 0 where
   pub box : Box
-  pub late : at ≤ box.at
-  pub first : box.at ≡ at → get_or ts 0 0 ≡ MDRI
   pub stands : Stands s box
   pub plain : box.type ≡ ODDA → ⊥
-  pub alone : only Mdri log ≡ box ∷ []
+  pub alone : ms ≡ box ∷ []
   pub children : List Box
   pub chained : Chain s (box.at + box.skip) children
-  pub rights : only Odrb log ≡ only Odrb children
+  pub rights : os ≡ only Odrb children
+
+-- ts: the types of the run that starts at an offset and has these mdris and rights objects
+record Found (s : List ℕ) (at : ℕ) (ts : List ℕ) (ms os : List Box) : Type 0 where
+  mdri : MdriOf s ms os
+  late : at ≤ mdri.box.at
+  first : mdri.box.at ≡ at → get_or ts 0 0 ≡ MDRI
+
+abbrev Sought : List ℕ → ℕ → List ℕ → List Box → Type 0
+Sought s at ts log = Found s at ts (only Mdri log) (only Odrb log) ⊎ None log
 
 later : (s : List ℕ) (at n t : ℕ) (ts : List ℕ) (log log' : List Box) → 1 ≤ n → only Mdri log' ≡ only Mdri log → only Odrb log' ≡ only Odrb log
-    → Found s (at + n) ts log ⊎ None log → Found s at (t ∷ ts) log' ⊎ None log'
+    → Sought s (at + n) ts log → Sought s at (t ∷ ts) log'
 later s at n t ts log log' l a b (inl m) =
-    inl (record {
-      box = m.box;
-      late = omega (arith, m.late);
-      first = λ e. absurd (omega (arith, m.late));
-      stands = m.stands;
-      plain = m.plain;
-      alone = a ∙ m.alone;
-      children = m.children;
-      chained = m.chained;
-      rights = b ∙ m.rights;
-    })
+    rw (a, b) (inl (record { mdri = m.mdri; late = omega (arith, m.late); first = λ e. absurd (omega (arith, m.late)) }))
 later s at n t ts log log' l a b (inr m) = inr (a ∙ m.0, b ∙ m.1)
 
 no_more : (ts : List ℕ) → count MDRI ts ≡ 0 → NoMdri ts
@@ -214,7 +211,7 @@ kept x xs ys m a n = (rw (m, only-append Mdri xs ys, a, n.0), rw (m, only-append
 
 is-here : (s : List ℕ) (at : ℕ) (h f : List ℕ) (k r : Run) → type_of h ≡ MDRI → Good Top (node h f k r) → Filled Top (node h f k r)
     → count MDRI (types r) ≡ 0 → Each (Stands s) (boxes top at (node h f k r)) → Each Fielded (boxes top at (node h f k r))
-    → Found s at (types (node h f k r)) (boxes top at (node h f k r))
+    → Found s at (types (node h f k r)) (only Mdri (boxes top at (node h f k r))) (only Odrb (boxes top at (node h f k r)))
 unfolding kind_of inside fields_length
 is-here s at h f k r e g w n a d =
     let z : ℕ = length f + length (encode k) in
@@ -230,19 +227,21 @@ is-here s at h f k r e g w n a d =
     let c : Chain s p xs = chain s (into top x) p k (ap inside m) o g.2 w.1 (each_left (Stands s) xs ys a.1) (each_left Fielded xs ys d.1) in
     let u = kept x xs ys m (none-among (into top x) p k o g.2) rest in
     record {
-      box = x;
+      mdri = record {
+        box = x;
+        stands = a.0;
+        plain = λ t. absurd (omega arith);
+        alone = u.0;
+        children = xs;
+        chained = subst (λ (j : ℕ). Chain s j xs) q c;
+        rights = u.1;
+      };
       late = omega arith;
       first = λ _. e;
-      stands = a.0;
-      plain = λ t. absurd (omega arith);
-      alone = u.0;
-      children = xs;
-      chained = subst (λ (j : ℕ). Chain s j xs) q c;
-      rights = u.1;
     }
 
 find : (s : List ℕ) (at : ℕ) (t : Run) → Good Top t → Filled Top t → count MDRI (types t) ≤ 1 → Each (Stands s) (boxes top at t)
-    → Each Fielded (boxes top at t) → Found s at (types t) (boxes top at t) ⊎ None (boxes top at t)
+    → Each Fielded (boxes top at t) → Sought s at (types t) (boxes top at t)
 unfolding kind_of holds_run
 find s at end g w n a d = inr (refl, refl)
 find s at (bad k b) g w n a d = inr (refl, refl)
@@ -262,8 +261,8 @@ find s at (node h f k r) g w n a d =
     go (eqb (type_of h) MDRI) refl n i
   where
     go : (b : Bool) → eqb (type_of h) MDRI ≡ b → pick b 1 0 + count MDRI (types r) ≤ 1
-        → Found s (at + (length h + (length f + length (encode k)))) (types r) (boxes top (at + (length h + (length f + length (encode k)))) r) ⊎ None (boxes top (at + (length h + (length f + length (encode k)))) r)
-        → Found s at (types (node h f k r)) (boxes top at (node h f k r)) ⊎ None (boxes top at (node h f k r))
+        → Sought s (at + (length h + (length f + length (encode k)))) (types r) (boxes top (at + (length h + (length f + length (encode k)))) r)
+        → Sought s at (types (node h f k r)) (boxes top at (node h f k r))
     go true e l i = inl (is-here s at h f k r (eqb-true (type_of h) MDRI e) g w (omega arith) a d)
     go false e l i =
         let z : ℕ = length f + length (encode k) in
@@ -278,37 +277,15 @@ find s at (node h f k r) g w n a d =
 
 -- ---- an accepted file
 
-pub record MdriOf (s : List ℕ) (log : List Box) : Type 0 where
-  pub box : Box
-  pub late : 1 ≤ box.at
-  pub stands : Stands s box
-  pub plain : box.type ≡ ODDA → ⊥
-  pub alone : only Mdri log ≡ box ∷ []
-  pub children : List Box
-  pub chained : Chain s (box.at + box.skip) children
-  pub rights : only Odrb log ≡ only Odrb children
-
-positive : (n : ℕ) → (n ≡ 0 → ⊥) → 1 ≤ n
-positive zero f = absurd (f refl)
-positive (suc n) f = omega arith
-
 -- its mdri is not its first box
-pub mdri-of : (s : List ℕ) (log : List Box) → read_of 256 s ≡ done log → MdriOf s log ⊎ ((only Mdri log ≡ []) × (only Odrb log ≡ []))
+pub mdri-of : (s : List ℕ) (log : List Box) → read_of 256 s ≡ done log
+    → ((m : MdriOf s (only Mdri log) (only Odrb log)) × (m.box.at ≡ 0 → ⊥)) ⊎ ((only Mdri log ≡ []) × (only Odrb log ≡ []))
 mdri-of s log e =
     let p = reported 256 s log e in
     let f = find s 0 p.tree p.allowed.good p.allowed.filled p.allowed.ordered.mdri (rw p.boxes-of at p.stand) p.allowed.fielded in
     rw p.boxes-of (go (types p.tree) (boxes top 0 p.tree) p.allowed.ordered.first f)
   where
-    go : (ts : List ℕ) (l : List Box) → get_or ts 0 0 ≡ FTYP → Found s 0 ts l ⊎ None l → MdriOf s l ⊎ None l
-    go ts l t (inl m) =
-        inl (record {
-          box = m.box;
-          late = positive m.box.at (λ z. omega (arith, m.first z));
-          stands = m.stands;
-          plain = m.plain;
-          alone = m.alone;
-          children = m.children;
-          chained = m.chained;
-          rights = m.rights;
-        })
+    go : (ts : List ℕ) (l : List Box) → get_or ts 0 0 ≡ FTYP → Sought s 0 ts l
+        → ((m : MdriOf s (only Mdri l) (only Odrb l)) × (m.box.at ≡ 0 → ⊥)) ⊎ None l
+    go ts l t (inl m) = inl (m.mdri, λ z. omega (arith, m.first z))
     go ts l t (inr n) = inr n

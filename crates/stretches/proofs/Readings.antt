@@ -1,24 +1,29 @@
 -- What a reading's answer tells: the number of a refusal, and the containers of an accepted file. Assumes nothing.
 use mathlib.Core.Path.{◌≡◌, refl, sym, ap, ◌∙◌, subst}
-use Prim.Native.Nat.{ℕ, zero, suc, ◌+◌, ◌≤◌, ◌<◌}
+use Prim.Native.Nat.{ℕ, zero, suc, ◌+◌, ◌-◌, ◌≤◌, ◌<◌}
 use native.Mathlib.Omega.{arith}
 use mathlib.Core.Bool.{Bool, true, false}
-use mathlib.Core.List.{List, [], ◌∷◌, ◌++◌, map}
-use lib.ListN.{length, get_or, length-map, get_or-append}
-use lib.Dec.{eqb}
+use mathlib.Core.List.{List, [], ◌∷◌, map}
+use lib.ListN.{length, take, get_or, replicate, length-map, length-append, get_or-append}
+use lib.Dec.{ltb}
+use borrow.Author.Tests.{ltb-true, lt-ltb, le-ltb}
+use Rattle.std.proofs.lemmas.List.{get_or-map, get_or-take, length-take-le}
+use Rattle.std.specs.Prelude.{Option, Some, None, Result, Ok, Err, IfOk, IsErrAnd}
+use Rattle.std.specs.Option.{ok_or, option_copied}
+use Rattle.std.specs.Slice.{IsItemAt}
+use Rattle.std.specs.Borrow.{Bor}
 use Rattle.numbers.specs.Choice.{pick}
 use Rattle.strings.specs.Headers.{Each, Textual}
-use Rattle.format.specs.declared.Rule.TheVariants.{Done}
+use Rattle.format.specs.declared.Rule.{Rule}
+use Rattle.format.specs.declared.Rule.TheVariants.{Done, NoContainer}
 use Rattle.format.specs.declared.Kind.{Kind}
 use Rattle.format.specs.declared.Reading.{Reading}
 use Rattle.format.specs.declared.Summary.{Summary}
 use Rattle.format.specs.Numbers.{number_of}
-use Rattle.format.specs.Kinds.{ODRM, fields_length}
-use Rattle.format.specs.Header.{type_of}
-use Rattle.format.specs.Tree.{Run, end, bad, leaf, node, encode}
+use Rattle.format.specs.Kinds.{fields_length}
 use Rattle.format.specs.Fields.{textual_headers, data_length}
-use Rattle.format.specs.Boxes.{Box, kind, room, Container, containers}
-use Rattle.format.specs.Allowed.{types, count, Says}
+use Rattle.format.specs.Boxes.{Box, kind, room, Container}
+use Rattle.format.specs.Allowed.{Says}
 use Rattle.format.specs.Judge.{Out, fault, done, read_of}
 use Rattle.format.specs.Report.{no_summary, summary_of, containers_in, accepted_as, answer_of}
 use Rattle.format.specs.Standing.{HeaderStands}
@@ -26,10 +31,28 @@ use Rattle.format.proofs.Exact.{reported}
 use Rattle.format.proofs.Refused.{refused}
 use Rattle.summaries.specs.Contained.{Contained, no_container}
 use Rattle.summaries.proofs.Accepted.{accepted-contained}
-use Rattle.stretches.specs.Given.{refusal_of}
-use Rattle.stretches.specs.Content.{container_at}
+use Rattle.stretches.specs.Given.{refusal_of, verdict, log_of, Refuses, Gives, Inside}
+use Rattle.stretches.specs.Header.{HeadersIn}
+use Rattle.stretches.specs.Content.{container_at, unless_no_container, summary_in, content_refusal}
 
 -- ---- refused, and accepted
+
+-- a number that is not 0 comes before what follows
+pub sooner : {f g : List Box → ℕ} (o : Out) (rule : Rule) → ((log : List Box) → (f log ≡ 0 → ⊥) → f log ≡ g log)
+    → Refuses (refusal_of o f) rule → Refuses (refusal_of o g) rule
+unfolding refusal_of
+sooner (fault n p) rule h k = k
+sooner (done log) rule h k = let e = h log k.1 in (sym e ∙ k.0, λ z. k.1 (e ∙ z))
+
+-- the reading's refusal is one of `content`
+pub content_refused : (s : List ℕ) (i : ℕ) (rule : Rule) → Refuses (verdict s) rule → Refuses (content_refusal s i) rule
+unfolding content_refusal
+content_refused s i rule h = sooner (read_of 256 s) rule (λ log k. absurd (k refl)) h
+
+-- a rule that is passed on refuses
+pub passed_on : {T : Type 0} (k : ℕ) (p : T) (rule : Rule) (r : Result T Rule) → Refuses k rule → IsErrAnd r (λ e. e ≡ rule) → Gives k p r
+passed_on k p rule (Ok q) f e = absurd e
+passed_on k p rule (Err x) f e = (f.0 ∙ ap number_of (sym e), f.1)
 
 -- the boxes of an accepted file
 pub record Accepted (s : List ℕ) (r : Reading) : Type 0 where
@@ -38,100 +61,119 @@ pub record Accepted (s : List ℕ) (r : Reading) : Type 0 where
   pub answer : r ≡ accepted_as log
 
 module _ (s : List ℕ) {r : Reading} (a : r ≡ answer_of (read_of 256 s)) where
-  -- a reading that is not done has the number of its rule, and nothing that follows is asked
-  pub stopped : (r.refusal.rule ≡ Done → ⊥) → (f : List Box → ℕ) → number_of r.refusal.rule ≡ refusal_of (read_of 256 s) f
+  -- a reading that is not done has the number of its rule
+  pub stopped : (r.refusal.rule ≡ Done → ⊥) → Refuses (verdict s) r.refusal.rule
   unfolding answer_of refusal_of
-  stopped k f = go (read_of 256 s) refl
+  stopped k = go (read_of 256 s) refl
     where
-      go : (o : Out) → read_of 256 s ≡ o → number_of r.refusal.rule ≡ refusal_of o f
-      go (fault n p) e = rw a (refused 256 s n p e).number
-      go (done l) e = absurd (k (ap (λ (x : Reading). x.refusal.rule) (a ∙ ap answer_of e)))
-
-  accepted-as : (log : List Box) → read_of 256 s ≡ done log → Accepted s r
-  unfolding answer_of
-  accepted-as log e = record { log = log; read = e; answer = a ∙ ap answer_of e }
-
-  pub done-accepted : r.refusal.rule ≡ Done → Accepted s r
-  done-accepted d = go (read_of 256 s) refl
-    where
-      go : (o : Out) → read_of 256 s ≡ o → Accepted s r
+      go : (o : Out) → read_of 256 s ≡ o → Refuses (refusal_of o (λ log. 0)) r.refusal.rule
       go (fault n p) e =
           let f = refused 256 s n p e in
-          let z : n ≡ 0 = sym f.number ∙ ap (λ (x : Reading). number_of x.refusal.rule) (sym a) ∙ ap number_of d in
-          absurd (omega (arith, f.range))
-      go (done l) e = accepted-as l e
+          (sym f.number ∙ ap (λ (x : Reading). number_of x.refusal.rule) (sym a), λ z. omega (arith, f.range))
+      go (done log) e = absurd (k (ap (λ (x : Reading). x.refusal.rule) (a ∙ ap answer_of e)))
 
-  -- a refused reading has no containers
-  pub counted-accepted : {i : ℕ} → i < r.containers → Accepted s r
-  unfolding answer_of
-  counted-accepted {i} l = go (read_of 256 s) refl
+  pub went_on : r.refusal.rule ≡ Done → verdict s ≡ 0
+  unfolding answer_of refusal_of
+  went_on d = go (read_of 256 s) refl
     where
-      go : (o : Out) → read_of 256 s ≡ o → Accepted s r
-      go (fault n p) e = absurd (omega (arith, ap (λ (x : Reading). x.containers) (a ∙ ap answer_of e)))
-      go (done log) e = accepted-as log e
+      go : (o : Out) → read_of 256 s ≡ o → refusal_of o (λ log. 0) ≡ 0
+      go (fault n p) e = sym (refused 256 s n p e).number ∙ ap (λ (x : Reading). number_of x.refusal.rule) (sym a) ∙ ap number_of d
+      go (done log) e = refl
 
-  -- and no rights objects
-  pub rights-accepted : {i : ℕ} → i < r.rights → Accepted s r
-  unfolding answer_of
-  rights-accepted {i} l = go (read_of 256 s) refl
-    where
-      go : (o : Out) → read_of 256 s ≡ o → Accepted s r
-      go (fault n p) e = absurd (omega (arith, ap (λ (x : Reading). x.rights) (a ∙ ap answer_of e)))
-      go (done log) e = accepted-as log e
+pub accepted : (s : List ℕ) {r : Reading} → (verdict s ≡ 0) × (r ≡ answer_of (read_of 256 s)) → Accepted s r
+unfolding answer_of refusal_of
+accepted s {r} g = go (read_of 256 s) refl g.0
+  where
+    go : (o : Out) → read_of 256 s ≡ o → refusal_of o (λ log. 0) ≡ 0 → Accepted s r
+    go (fault n p) e z = absurd (omega (arith, (refused 256 s n p e).range))
+    go (done log) e z = record { log = log; read = e; answer = g.1 ∙ ap answer_of e }
 
 -- ---- the containers of an accepted file
-
--- at most eight: as many as odrm boxes at the top
-few-containers : (at : ℕ) (t : Run) → length (containers at t) ≤ count ODRM (types t)
-few-containers at end = omega arith
-few-containers at (bad k s) = omega arith
-few-containers at (leaf h b r) = omega (arith, few-containers (at + (length h + length b)) r)
-few-containers at (node h f k r) = go _ _ (eqb (type_of h) ODRM) (few-containers (at + (length h + (length f + length (encode k)))) r)
-  where
-    go : (c : Container) (cs : List Container) (b : Bool) → length cs ≤ count ODRM (types r) → length (pick b (c ∷ []) [] ++ cs) ≤ pick b 1 0 + count ODRM (types r)
-    go c cs true l = omega arith
-    go c cs false l = omega arith
 
 each_at : (P : Container → Type 0) (cs : List Container) → Each P cs → (i : ℕ) → i < length cs → P (get_or cs i no_container)
 each_at P [] a i l = absurd (omega arith)
 each_at P (c ∷ cs) a zero l = a.0
 each_at P (c ∷ cs) a (suc i) l = each_at P cs a.1 i (omega arith)
 
-summary-at : (cs : List Container) (i : ℕ) → i < length cs → get_or (map summary_of cs) i no_summary ≡ summary_of (get_or cs i no_container)
-summary-at [] i l = absurd (omega arith)
-summary-at (c ∷ cs) zero l = refl
-summary-at (c ∷ cs) (suc i) l = summary-at cs i (omega arith)
-
-abbrev pub summary_at : Reading → ℕ → Summary
-summary_at r i = get_or r.summaries i no_summary
-
--- the container of an index that the reading counts, and its summary
-pub record Counted (s : List ℕ) (r : Reading) (i : ℕ) : Type 0 where
+-- the container of an index
+pub record Counted (s : List ℕ) (i : ℕ) : Type 0 where
   pub log : List Box
   pub read : read_of 256 s ≡ done log
   pub counted : i < length (containers_in log)
-  pub few : i < 8
-  pub summary : summary_at r i ≡ summary_of (container_at log i)
   pub contained : Contained s (container_at log i).odrm.at (container_at log i)
   pub stands : HeaderStands s (container_at log i)
 
-pub counted : (s : List ℕ) {r : Reading} {i : ℕ} → r ≡ answer_of (read_of 256 s) → i < r.containers → Counted s r i
-counted s {r} {i} a l =
-    let x = counted-accepted s a l in
-    let cs : List Container = containers_in x.log in
-    let m : i < length cs = omega (arith, ap (λ (y : Reading). y.containers) x.answer) in
-    let p = reported 256 s x.log x.read in
-    record {
-      log = x.log;
-      read = x.read;
-      counted = m;
-      few = omega (arith, ap length p.containers-of, few-containers 0 p.tree, p.allowed.ordered.odrm.1);
-      summary =
-          ap (λ (y : Reading). summary_at y i) x.answer
-          ∙ get_or-append (map summary_of cs) _ no_summary i (omega (arith, length-map cs summary_of)) ∙ summary-at cs i m;
-      contained = each_at (λ c. Contained s c.odrm.at c) cs (accepted-contained 256 s x.log x.read) i m;
-      stands = each_at (HeaderStands s) cs p.headers i m;
-    }
+below : (i n : ℕ) (b : Bool) → ltb i n ≡ b → ◌≡◌ {A = ℕ} (pick b 0 21) 0 → i < n
+below i n true e z = ltb-true i n e
+below i n false e z = absurd (omega arith)
+
+pub counted : (s : List ℕ) (i : ℕ) → content_refusal s i ≡ 0 → Counted s i
+unfolding content_refusal refusal_of
+counted s i z = go (read_of 256 s) refl z
+  where
+    go : (o : Out) → read_of 256 s ≡ o → refusal_of o (λ log. unless_no_container log i 0) ≡ 0 → Counted s i
+    go (fault n p) e z = absurd (omega (arith, (refused 256 s n p e).range))
+    go (done log) e z =
+        let cs : List Container = containers_in log in
+        let m : i < length cs = below i (length cs) (ltb i (length cs)) refl z in
+        let p = reported 256 s log e in
+        record {
+          log = log;
+          read = e;
+          counted = m;
+          contained = each_at (λ c. Contained s c.odrm.at c) cs (accepted-contained 256 s log e) i m;
+          stands = each_at (HeaderStands s) cs p.headers i m;
+        }
+
+pub log-of : {s : List ℕ} {i : ℕ} (c : Counted s i) → log_of (read_of 256 s) ≡ c.log
+unfolding log_of
+log-of c = rw c.read
+
+-- ---- the summary that is looked up
+
+module _ (s : List ℕ) {r : Reading} (g : (verdict s ≡ 0) × (r ≡ answer_of (read_of 256 s))) where
+  x : Accepted s r
+  x = accepted s g
+
+  pub few : r.containers ≤ length r.summaries
+  few =
+      let cs : List Container = containers_in x.log in
+      omega (
+        arith,
+        ap (λ (y : Reading). y.containers) x.answer,
+        ap (λ (y : Reading). length y.summaries) x.answer,
+        length-append (map summary_of cs) (replicate (8 - length (map summary_of cs)) no_summary),
+        length-map cs summary_of,
+      )
+
+  pub few_taken : r.containers ≡ length (take r.containers r.summaries)
+  few_taken = sym (length-take-le r.containers r.summaries few)
+
+  number : (i : ℕ) → content_refusal s i ≡ pick (ltb i r.containers) 0 21
+  unfolding content_refusal refusal_of
+  number i = go x
+    where
+      go : Accepted s r → refusal_of (read_of 256 s) (λ log. unless_no_container log i 0) ≡ pick (ltb i r.containers) 0 21
+      go x = rw (x.read, x.answer)
+
+  item : (i : ℕ) → i < r.containers → get_or r.summaries i no_summary ≡ summary_in s i
+  unfolding log_of
+  item i l =
+      let cs : List Container = containers_in x.log in
+      let m : i < length cs = omega (arith, ap (λ (y : Reading). y.containers) x.answer) in
+      rw x.read (ap (λ (y : Reading). get_or y.summaries i no_summary) x.answer
+      ∙ get_or-append (map summary_of cs) _ no_summary i (omega (arith, length-map cs summary_of)) ∙ get_or-map summary_of cs i no_container no_summary m)
+
+  pub looked_up : (i : ℕ) (o : Option (Bor Summary)) → IsItemAt (take r.containers r.summaries) i o
+      → Gives (content_refusal s i) (summary_in s i) (ok_or (option_copied o) NoContainer)
+  looked_up i None h =
+      let l : r.containers ≤ i = omega (arith, h.3, few_taken) in
+      let n : content_refusal s i ≡ 21 = number i ∙ rw (le-ltb i r.containers l) refl in
+      (n, λ z. omega (arith, n))
+  looked_up i (Some b) h =
+      let l : i < r.containers = omega (arith, h.3.0, few_taken) in
+      let g : b.now ≡ get_or (take r.containers r.summaries) i no_summary = h.4 (omega arith) no_summary in
+      (number i ∙ rw (lt-ltb i r.containers l) refl, g ∙ get_or-take r.containers r.summaries i no_summary l ∙ item i l)
 
 -- ---- its stretches lie in the file
 
@@ -151,3 +193,19 @@ module _ {s : List ℕ} {at : ℕ} {c : Container} (h : Contained s at c) where
 
   pub headers-textual : Textual (textual_headers c.ohdr.fields)
   headers-textual = (subst (λ (k : Kind). Says k (room c.ohdr) c.ohdr.fields) h.ohdr.of h.ohdr.fielded.says).3
+
+module _ (s : List ℕ) (i : ℕ) {x : Summary} (g : (content_refusal s i ≡ 0) × (x ≡ summary_in s i)) where
+  pub content_held : Inside s x.content
+  content_held = let c = counted s i g.0 in rw (g.1, log-of c) (content-inside c.contained)
+
+  pub headers_held : HeadersIn s x.headers
+  headers_held =
+      let c = counted s i g.0 in
+      rw (g.1, log-of c) (record {
+        inside = headers-inside c.contained;
+        textual = rw c.stands.textual_headers (headers-textual c.contained);
+      })
+
+pub summary_headers : (s : List ℕ) (i : ℕ) (r : Result Summary Rule) → Gives (content_refusal s i) (summary_in s i) r → IfOk r (λ x. HeadersIn s x.headers)
+summary_headers s i (Ok x) g = headers_held s i g
+summary_headers s i (Err rule) g = tt

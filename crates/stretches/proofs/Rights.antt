@@ -11,24 +11,23 @@ use lib.Seq.{slice}
 use borrow.Author.Tests.{lt-ltb, le-ltb, ne_eqb}
 use Rattle.numbers.specs.Choice.{pick}
 use Rattle.strings.specs.Headers.{Each}
+use Rattle.format.specs.declared.Rule.{Rule}
+use Rattle.format.specs.declared.Rule.TheVariants.{NoMdri, NoRights}
 use Rattle.format.specs.declared.Kind.{Kind}
 use Rattle.format.specs.declared.Kind.TheVariants.{Mdri, Odrb}
 use Rattle.format.specs.declared.Reading.{Reading}
-use Rattle.format.specs.declared.Stretch.{Stretch}
 use Rattle.format.specs.Kinds.{fields_length, same_kind}
 use Rattle.format.specs.Boxes.{Box, no_box, kind, room, only}
 use Rattle.format.specs.Allowed.{Fielded}
-use Rattle.format.specs.Judge.{Out, fault, done, read_of, last_of}
-use Rattle.format.specs.Report.{no_stretch, mdri_at, bytes_in, rights_of, answer_of}
+use Rattle.format.specs.Judge.{done, read_of, last_of}
+use Rattle.format.specs.Report.{mdri_at, bytes_in, rights_of, answer_of}
 use Rattle.format.specs.Standing.{Stands}
 use Rattle.format.proofs.Order.{same_kind_lem}
 use Rattle.format.proofs.Exact.{reported}
-use Rattle.format.proofs.Refused.{refused}
-use Rattle.stretches.specs.Given.{refusal_of, log_of, given}
-use Rattle.stretches.specs.Rights.{rights_in, odrb_at, rights_number, rights_data_refusal, rights_data_of, RightsAt}
-use Rattle.stretches.proofs.Readings.{Accepted, rights-accepted}
+use Rattle.stretches.specs.Given.{refusal_of, verdict, Refuses}
+use Rattle.stretches.specs.Rights.{rights_in, odrb_at, rights_number, rights_data_refusal, RightsAt}
+use Rattle.stretches.proofs.Readings.{sooner, Accepted, accepted}
 use Rattle.stretches.proofs.Mdri.{MdriOf, mdri-of}
-use Rattle.stretches.proofs.Seeking.{the-mdri}
 
 -- there is no mdri just if its offset is 0
 mdri-zero : (s : List ℕ) (log : List Box) → read_of 256 s ≡ done log → eqb (length (only Mdri log)) 0 ≡ eqb (mdri_at log) 0
@@ -37,26 +36,47 @@ mdri-zero s log e = go (mdri-of s log e)
     Same : List Box → Type 0
     Same l = eqb (length l) 0 ≡ eqb (last_of no_box l).at 0
 
-    go : MdriOf s log ⊎ ((only Mdri log ≡ []) × (only Odrb log ≡ [])) → eqb (length (only Mdri log)) 0 ≡ eqb (mdri_at log) 0
-    go (inl m) = subst Same (sym m.alone) (sym (ne_eqb m.box.at 0 (λ z. omega (arith, m.late))))
+    go : ((m : MdriOf s (only Mdri log) (only Odrb log)) × (m.box.at ≡ 0 → ⊥)) ⊎ ((only Mdri log ≡ []) × (only Odrb log ≡ []))
+        → eqb (length (only Mdri log)) 0 ≡ eqb (mdri_at log) 0
+    go (inl (m, z)) = subst Same (sym m.alone) (sym (ne_eqb m.box.at 0 z))
     go (inr n) = subst Same (sym n.0) refl
 
 -- ---- the numbers
 
-pub rights-refusal : {s : List ℕ} {r : Reading} (i : ℕ) (x : Accepted s r)
-    → rights_data_refusal s i ≡ pick (eqb r.mdri 0) 14 (pick (ltb i r.rights) 0 17)
-unfolding rights_data_refusal refusal_of
-rights-refusal {s} i x = rw (x.read, x.answer, mdri-zero s x.log x.read)
+-- the reading's refusal is one of `rights_data`
+pub rights_refused : (s : List ℕ) (i : ℕ) (rule : Rule) → Refuses (verdict s) rule → Refuses (rights_data_refusal s i) rule
+unfolding rights_data_refusal
+rights_refused s i rule h = sooner (read_of 256 s) rule (λ log k. absurd (k refl)) h
 
-module _ {s : List ℕ} {r : Reading} (i : ℕ) (x : Accepted s r) where
-  pub no-mdri : r.mdri ≡ 0 → 14 ≡ rights_data_refusal s i
-  no-mdri e = sym (rights-refusal i x ∙ rw e)
+module _ (s : List ℕ) {r : Reading} (i : ℕ) (g : (verdict s ≡ 0) × (r ≡ answer_of (read_of 256 s))) where
+  x : Accepted s r
+  x = accepted s g
 
-  pub has-rights : (r.mdri ≡ 0 → ⊥) → i < r.rights → 0 ≡ rights_data_refusal s i
-  has-rights e l = sym (rights-refusal i x ∙ rw (ne_eqb r.mdri 0 e, lt-ltb i r.rights l))
+  rights-number : rights_data_refusal s i ≡ pick (eqb r.mdri 0) 14 (pick (ltb i r.rights) 0 17)
+  unfolding rights_data_refusal refusal_of
+  rights-number = go x
+    where
+      go : Accepted s r → refusal_of (read_of 256 s) (λ log. rights_number log i) ≡ pick (eqb r.mdri 0) 14 (pick (ltb i r.rights) 0 17)
+      go x = rw (x.read, x.answer, mdri-zero s x.log x.read)
 
-  pub no-rights : (r.mdri ≡ 0 → ⊥) → r.rights ≤ i → 17 ≡ rights_data_refusal s i
-  no-rights e l = sym (rights-refusal i x ∙ rw (ne_eqb r.mdri 0 e, le-ltb i r.rights l))
+  pub no_mdri : r.mdri ≡ 0 → Refuses (rights_data_refusal s i) NoMdri
+  no_mdri e = let n : rights_data_refusal s i ≡ 14 = rights-number ∙ rw e refl in (n, λ z. omega (arith, n))
+
+  pub no_rights : (r.mdri ≡ 0 → ⊥) → r.rights ≤ i → Refuses (rights_data_refusal s i) NoRights
+  no_rights e l =
+      let n : rights_data_refusal s i ≡ 17 = rights-number ∙ rw (ne_eqb r.mdri 0 e, le-ltb i r.rights l) refl in
+      (n, λ z. omega (arith, n))
+
+  pub has_rights : (r.mdri ≡ 0 → ⊥) → i < r.rights → rights_data_refusal s i ≡ 0
+  has_rights e l = rights-number ∙ rw (ne_eqb r.mdri 0 e, lt-ltb i r.rights l) refl
+
+  pub rights_object_at : i < r.rights → RightsAt s r.mdri i
+  rights_object_at l = record {
+    log = x.log;
+    read = x.read;
+    here = ap (λ (y : Reading). y.mdri) x.answer;
+    some = omega (arith, ap (λ (y : Reading). y.rights) x.answer);
+  }
 
 -- ---- the stretch
 
@@ -74,21 +94,7 @@ only_at P k (x ∷ xs) a i l = go (same_kind (kind x) k) refl (only_at P k xs a.
     go true e f (suc j) l = f j (omega arith)
     go false e f j l = f j l
 
-pub rights-at : (s : List ℕ) {r : Reading} {i : ℕ} → r ≡ answer_of (read_of 256 s) → i < r.rights → RightsAt s r.mdri i
-rights-at s a l =
-    let x = rights-accepted s a l in
-    record {
-      log = x.log;
-      read = x.read;
-      here = ap (λ (y : Reading). y.mdri) x.answer;
-      some = omega (arith, ap (λ (y : Reading). y.rights) x.answer);
-    }
-
 module _ {s : List ℕ} {mdri i : ℕ} (r : RightsAt s mdri i) where
-  sought : odrb_at (log_of (read_of 256 s)) i ≡ odrb_at r.log i
-  unfolding log_of
-  sought = ap (λ (o : Out). odrb_at (log_of o) i) r.read
-
   held : (Stands s (odrb_at r.log i) × Fielded (odrb_at r.log i)) × (kind (odrb_at r.log i) ≡ Odrb)
   held =
       let p = reported 256 s r.log r.read in
@@ -103,31 +109,9 @@ module _ {s : List ℕ} {mdri i : ℕ} (r : RightsAt s mdri i) where
       let f : fields_length (kind (odrb_at r.log i)) (odrb_at r.log i).fields ≤ room (odrb_at r.log i) = h.0.1.fit in
       omega (arith, rw h.1 at f, h.0.0.headed)
 
-  pub rights-within : {q : Stretch} → q ≡ rights_in (odrb_at (log_of (read_of 256 s)) i) → q.offset + q.length ≤ length s
-  rights-within {q} e =
-      let h = held.0.0 in
-      subst (λ (p : Stretch). p.offset + p.length ≤ length s) (sym (e ∙ ap rights_in sought)) (omega (arith, odrb-held, h.within.0, h.within.1))
-
-  pub rights-given : rights_in (odrb_at (log_of (read_of 256 s)) i) ≡ rights_data_of s i
-  unfolding rights_data_of rights_data_refusal refusal_of log_of
-  rights-given = rw (r.read, (the-mdri r).alone, lt-ltb i (length (only Odrb r.log)) r.some)
-
   -- its bytes are those of the rights object in the reading
   pub rights-bytes : bytes_in s (rights_in (odrb_at r.log i)) ≡ rights_of s (odrb_at r.log i)
   rights-bytes =
       let x : Box = odrb_at r.log i in
       let e : x.at + x.skip + 4 + (x.size - (x.skip + 4)) ≡ x.at + x.size = omega (arith, odrb-held) in
       ap (λ (n : ℕ). slice (x.at + x.skip + 4) n s) e
-
-pub rights-none : (s : List ℕ) {r : Reading} {i : ℕ} → r ≡ answer_of (read_of 256 s) → r.rights ≤ i → rights_data_of s i ≡ no_stretch
-unfolding rights_data_of rights_data_refusal refusal_of answer_of
-rights-none s {r} {i} a l = go (read_of 256 s) refl
-  where
-    none : (b : Bool) → eqb (pick b 14 17) 0 ≡ false
-    none true = refl
-    none false = refl
-
-    go : (o : Out) → read_of 256 s ≡ o → given (refusal_of o (λ log. rights_number log i)) (rights_in (odrb_at (log_of o) i)) ≡ no_stretch
-    go (fault n p) e = let z = (refused 256 s n p e).range in rw (ne_eqb n 0 (λ h. omega arith))
-    go (done log) e =
-        rw (le-ltb i (length (only Odrb log)) (omega (arith, ap (λ (x : Reading). x.rights) (a ∙ ap answer_of e))), none (eqb (length (only Mdri log)) 0))

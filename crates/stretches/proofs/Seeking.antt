@@ -1,9 +1,8 @@
 -- The rights object of an index, sought along the boxes in mdri: each header that is read is the next box's. Assumes nothing.
-use mathlib.Core.Path.{◌≡◌, refl, sym, ap, ◌∙◌, subst}
+use mathlib.Core.Path.{◌≡◌, sym, ap, ◌∙◌, subst}
 use mathlib.Core.Logic.{◌⊎◌, inl, inr}
-use Prim.Native.Nat.{ℕ, zero, suc, ◌+◌, ◌-◌, ◌≤◌, ◌<◌}
+use Prim.Native.Nat.{ℕ, suc, ◌+◌, ◌-◌, ◌≤◌, ◌<◌}
 use native.Mathlib.Omega.{arith}
-use mathlib.Core.Bool.{Bool, true, false}
 use mathlib.Core.List.{List, [], ◌∷◌}
 use lib.ListN.{length, drop, get_or, length-drop}
 use lib.Seq.{slice, take-length}
@@ -77,110 +76,115 @@ pub record Seek (s : List ℕ) (at left : ℕ) (sought : Box) : Type 0 where
   pub same : get_or (only Odrb rest) left no_box ≡ sought
 
 -- the box at that offset, with the header that is read there
-pub record Next (s : List ℕ) (at left : ℕ) (sought : Box) (h : Head) : Type 0 where
-  pub box : Box
-  pub rest : List Box
-  pub child : Child s at box
-  pub chained : Chain s (at + box.size) rest
-  pub some : left < length (only Odrb (box ∷ rest))
-  pub same : get_or (only Odrb (box ∷ rest)) left no_box ≡ sought
-  pub read : HeadOf s box h
+record Next (s : List ℕ) (at left : ℕ) (sought : Box) (h : Head) : Type 0 where
+  box : Box
+  rest : List Box
+  child : Child s at box
+  chained : Chain s (at + h.size) rest
+  some : left < length (only Odrb (box ∷ rest))
+  same : get_or (only Odrb (box ∷ rest)) left no_box ≡ sought
+  read : HeadOf s box h
 
-pub seek-inside : {s : List ℕ} {at left : ℕ} {sought : Box} → Seek s at left sought → at ≤ length s
-seek-inside {s} {at} {left} k = go k.rest k.chained k.some
+pub seek_inside : {s : List ℕ} {at left : ℕ} {sought : Box} → Seek s at left sought → at ≤ length s
+seek_inside {s} {at} {left} k = go k.rest k.chained k.some
   where
     go : (ys : List Box) → Chain s at ys → left < length (only Odrb ys) → at ≤ length s
     go [] c l = absurd (omega arith)
     go (y ∷ ys) c l = omega (arith, c.0.here, c.0.stands.within.1)
 
-pub next : {s : List ℕ} {at left : ℕ} {sought : Box} {h : Head} → Seek s at left sought → ReadAt s at h → Next s at left sought h
+next : {s : List ℕ} {at left : ℕ} {sought : Box} {h : Head} → Seek s at left sought → ReadAt s at h → Next s at left sought h
 next {s} {at} {left} {sought} {h} k e = go k.rest k.chained k.some k.same
   where
     go : (ys : List Box) → Chain s at ys → left < length (only Odrb ys) → get_or (only Odrb ys) left no_box ≡ sought → Next s at left sought h
     go [] c l m = absurd (omega arith)
-    go (y ∷ ys) c l m = record {
-      box = y;
-      rest = ys;
-      child = c.0;
-      chained = c.1;
-      some = l;
-      same = m;
-      read = head c.0.stands c.0.plain c.0.here e;
-    }
+    go (y ∷ ys) c l m =
+        let r = head c.0.stands c.0.plain c.0.here e in
+        record {
+          box = y;
+          rest = ys;
+          child = c.0;
+          chained = subst (λ (n : ℕ). Chain s (at + n) ys) (sym r.size) c.1;
+          some = l;
+          same = m;
+          read = r;
+        }
 
-module _ {s : List ℕ} {at left : ℕ} {sought : Box} {h : Head} (n : Next s at left sought h) where
-  pub next-end : at + h.size ≤ length s
-  next-end = omega (arith, n.child.here, n.read.size, n.read.ends)
+module _ {s : List ℕ} {at left : ℕ} {sought : Box} {h : Head} (k : Seek s at left sought) (r : ReadAt s at h) where
+  n : Next s at left sought h
+  n = next k r
 
-  pub next-some : (8 ≤ h.skip) × (h.skip ≤ h.size)
-  next-some = (omega (arith, n.read.skip, n.read.least.0), omega (arith, n.read.skip, n.read.size, n.read.least.1))
+  pub next_fits : (8 ≤ h.size) × (at + h.size ≤ length s)
+  next_fits = (omega (arith, n.read.size, n.read.least.0, n.read.least.1), omega (arith, n.child.here, n.read.size, n.read.ends))
 
-  told : (b : Bool) → eqb h.boxtype ODRB ≡ b → same_kind (kind n.box) Odrb ≡ b
+  -- its type tells whether it is a rights object
+  told : same_kind (kind n.box) Odrb ≡ eqb h.boxtype ODRB
   unfolding kind_number
-  told b e =
+  told =
       ap (λ (c : Place). same_kind (kind_of c n.box.type) Odrb) n.child.place
-      ∙ same-named odrb (omega arith) n.box.type ∙ ap (λ (t : ℕ). eqb t ODRB) (sym n.read.boxtype) ∙ e
+      ∙ same-named odrb (omega arith) n.box.type ∙ ap (λ (t : ℕ). eqb t ODRB) (sym n.read.boxtype)
 
-  -- a rights object: its fields fit
-  pub odrb-fits : h.boxtype ≡ ODRB → h.skip + 4 ≤ h.size
+  -- then its fields fit
+  pub odrb_fits : h.boxtype ≡ ODRB → h.skip + 4 ≤ h.size
   unfolding fields_length
-  odrb-fits e =
-      let k : kind n.box ≡ Odrb = same_kind_lem (kind n.box) Odrb (told true (eq-eqb _ _ e)) in
+  odrb_fits e =
+      let k : kind n.box ≡ Odrb = same_kind_lem (kind n.box) Odrb (told ∙ eq-eqb _ _ e) in
       let f : fields_length (kind n.box) n.box.fields ≤ room n.box = n.child.fielded.fit in
       omega (arith, rw k at f, n.read.skip, n.read.size, n.read.least.1)
 
   -- it is the sought one where none is left before it
-  pub is-sought : h.boxtype ≡ ODRB → left ≡ 0
-      → ◌≡◌ {A = Stretch} (record { offset = at + h.skip + 4; length = at + h.size - (at + h.skip + 4) }) (rights_in sought)
-  is-sought e z =
-      let m : n.box ≡ sought = rw (told true (eq-eqb _ _ e), z) at n.same in
-      let l : at + h.size - (at + h.skip + 4) ≡ h.size - (h.skip + 4) = omega arith in
-      rw (← m, l, n.read.size, n.read.skip, ← n.child.here)
+  pub is_sought : h.boxtype ≡ ODRB → left ≡ 0
+      → ◌≡◌ {A = Stretch} (record { offset = at + (h.skip + 4); length = h.size - (h.skip + 4) }) (rights_in sought)
+  is_sought e z =
+      let m : n.box ≡ sought = rw (told ∙ eq-eqb _ _ e, z) at n.same in
+      let a : at + (h.skip + 4) ≡ n.box.at + n.box.skip + 4 = omega (arith, n.read.skip, n.child.here) in
+      let b : h.size - (h.skip + 4) ≡ n.box.size - (n.box.skip + 4) = omega (arith, n.read.size, n.read.skip) in
+      let p : Stretch = record { offset = at + (h.skip + 4); length = h.size - (h.skip + 4) } in
+      let q : Stretch = record { offset = n.box.at + n.box.skip + 4; length = h.size - (h.skip + 4) } in
+      let u : p ≡ q = ap (λ (j : ℕ). record { offset = j; length = h.size - (h.skip + 4) }) a in
+      let v : q ≡ rights_in n.box = ap (λ (j : ℕ). record { offset = n.box.at + n.box.skip + 4; length = j }) b in
+      u ∙ v ∙ ap rights_in m
 
-  pub past-odrb : h.boxtype ≡ ODRB → (left ≡ 0 → ⊥) → Seek s (at + h.size) (left - 1) sought
-  past-odrb e z =
-      let t = told true (eq-eqb _ _ e) in
-      rw n.read.size (record {
+  pub past_odrb : h.boxtype ≡ ODRB → (left ≡ 0 → ⊥) → Seek s (at + h.size) (left - 1) sought
+  past_odrb e z =
+      let t = told ∙ eq-eqb _ _ e in
+      let l : left ≡ suc (left - 1) = omega (arith, z) in
+      let m : get_or (n.box ∷ only Odrb n.rest) left no_box ≡ sought = rw t at n.same in
+      record {
         rest = n.rest;
         chained = n.chained;
-        some = before left z (rw t at n.some);
-        same = sym (behind left z) ∙ rw t at n.same;
-      })
-    where
-      before : (i : ℕ) → (i ≡ 0 → ⊥) → i < suc (length (only Odrb n.rest)) → i - 1 < length (only Odrb n.rest)
-      before zero z l = absurd (z refl)
-      before (suc i) z l = omega arith
+        some = let q : left < suc (length (only Odrb n.rest)) = rw t at n.some in omega (arith, l);
+        same = subst (λ (j : ℕ). get_or (n.box ∷ only Odrb n.rest) j no_box ≡ sought) l m;
+      }
 
-      behind : (i : ℕ) → (i ≡ 0 → ⊥) → get_or (n.box ∷ only Odrb n.rest) i no_box ≡ get_or (only Odrb n.rest) (i - 1) no_box
-      behind zero z = absurd (z refl)
-      behind (suc i) z = let e : i ≡ suc i - 1 = omega arith in ap (λ (j : ℕ). get_or (only Odrb n.rest) j no_box) e
-
-  pub past-other : (h.boxtype ≡ ODRB → ⊥) → Seek s (at + h.size) left sought
-  past-other e =
-      let t = told false (ne_eqb _ _ e) in
-      rw n.read.size (record { rest = n.rest; chained = n.chained; some = rw t at n.some; same = rw t at n.same })
+  pub past_other : (h.boxtype ≡ ODRB → ⊥) → Seek s (at + h.size) left sought
+  past_other e =
+      let t = told ∙ ne_eqb _ _ e in
+      record { rest = n.rest; chained = n.chained; some = rw t at n.some; same = rw t at n.same }
 
 -- ---- from the mdri on
 
 module _ {s : List ℕ} {mdri i : ℕ} (r : RightsAt s mdri i) where
-  pub the-mdri : MdriOf s r.log
+  pub the-mdri : MdriOf s (only Mdri r.log) (only Odrb r.log)
   the-mdri = go (mdri-of s r.log r.read)
     where
-      go : MdriOf s r.log ⊎ ((only Mdri r.log ≡ []) × (only Odrb r.log ≡ [])) → MdriOf s r.log
-      go (inl m) = m
+      M : Type 0
+      M = MdriOf s (only Mdri r.log) (only Odrb r.log)
+
+      go : ((m : M) × (m.box.at ≡ 0 → ⊥)) ⊎ ((only Mdri r.log ≡ []) × (only Odrb r.log ≡ [])) → M
+      go (inl m) = m.0
       go (inr n) = absurd (omega (arith, r.some, ap length n.1))
 
   at-mdri : the-mdri.box.at ≡ mdri
   at-mdri = sym (r.here ∙ ap (λ (l : List Box). (last_of no_box l).at) the-mdri.alone)
 
-  pub mdri-inside : mdri ≤ length s
-  mdri-inside = omega (arith, at-mdri, the-mdri.stands.within.1)
+  pub mdri_inside : mdri ≤ length s
+  mdri_inside = omega (arith, at-mdri, the-mdri.stands.within.1)
 
   pub mdri-head : {h : Head} → ReadAt s mdri h → HeadOf s the-mdri.box h
   mdri-head e = head the-mdri.stands the-mdri.plain at-mdri e
 
-  pub mdri-ends : {h : Head} → ReadAt s mdri h → mdri + h.skip ≤ length s
-  mdri-ends e = let m = mdri-head e in omega (arith, at-mdri, m.skip, m.least.1, m.ends)
+  pub mdri_ends : {h : Head} → ReadAt s mdri h → mdri + h.skip ≤ length s
+  mdri_ends e = let m = mdri-head e in omega (arith, at-mdri, m.skip, m.least.1, m.ends)
 
   pub seek : {h : Head} → ReadAt s mdri h → Seek s (mdri + h.skip) i (odrb_at (log_of (read_of 256 s)) i)
   unfolding log_of

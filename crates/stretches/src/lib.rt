@@ -1,160 +1,158 @@
 // Stretches of a file that a caller is handed: content, the value of a textual header, a rights object's data.
-// Each is a part of the caller's own slice, empty where the call is refused; a companion call has the number.
+// Each is a part of the caller's own slice, empty where the call is refused; a companion call has the number. Both calls of a pair
+// take what one private function answers: the stretch, or the rule that refuses it.
 #![tactic(auto)]
 
-ghost use Rattle.std.specs.Prelude.{◌≡◌};
+ghost use Rattle.std.specs.Prelude.{◌≡◌, IfOk};
 ghost use Rattle.format.specs.Numbers.{number_of};
 ghost use Rattle.format.specs.Judge.{read_of};
-ghost use Rattle.format.specs.Report.{bytes_in};
-ghost use Rattle.stretches.specs.Given.{log_of, PartOf};
-ghost use Rattle.stretches.specs.Content.{content_refusal, content_of};
-ghost use Rattle.stretches.specs.Header.{value_in, textual_header_refusal, textual_header_of, HeadersIn};
+ghost use Rattle.format.specs.Report.{answer_of};
+ghost use Rattle.stretches.specs.Given.{verdict, log_of, Gives, Inside, PartOf};
+ghost use Rattle.stretches.specs.Content.{summary_in, content_refusal, content_of};
+ghost use Rattle.stretches.specs.Header.{header_in, textual_header_refusal, textual_header_of, HeadersIn};
 ghost use Rattle.stretches.specs.Rights.{rights_in, odrb_at, rights_data_refusal, rights_data_of, RightsAt};
 
-use format::{Rule, Stretch};
-use strings::Found;
+use format::{Reading, Rule, Stretch, Summary};
+
+// The four letters of an odrb, as one number.
+const ODRB: usize = 0x6f647262;
+
+// The reading of a file, or the rule that refuses it.
+#[tactic(auto, using(crate::proofs::Readings::stopped, crate::proofs::Readings::went_on))]
+fn accepted(file: &[u8]) -> Result<Reading, Rule>
+    ensures { Gives (verdict file.now) (answer_of (read_of 256 file.now)) result }
+{
+    let reading = reading::read_file(file);
+    let verdict = reading.refusal.rule;
+    let Rule::Done = verdict else {
+        return Err(verdict);
+    };
+    Ok(reading)
+}
+
+// The summary of a container: reading's refusal, then 21.
+#[tactic(auto, using(crate::proofs::Readings::content_refused, crate::proofs::Readings::passed_on, crate::proofs::Readings::few, crate::proofs::Readings::few_taken, crate::proofs::Readings::looked_up, crate::proofs::Readings::summary_headers))]
+fn summary_at(file: &[u8], container: usize) -> Result<Summary, Rule>
+    ensures gives { Gives (content_refusal file.now container) (summary_in file.now container) result }
+    ensures headers { IfOk result (λ x. HeadersIn file.now x.headers) }
+{
+    let reading = accepted(file)?;
+    let summaries = &reading.summaries[..reading.containers];
+    summaries.get(container).copied().ok_or(Rule::NoContainer)
+}
+
+// Where the content of a container stands: reading's refusal, then 21.
+#[tactic(auto, using(crate::proofs::Readings::passed_on, crate::proofs::Readings::content_held))]
+fn content_at(file: &[u8], container: usize) -> Result<Stretch, Rule>
+    ensures gives { Gives (content_refusal file.now container) (summary_in file.now container).content result }
+    ensures inside { IfOk result (Inside file.now) }
+{
+    Ok(summary_at(file, container)?.content)
+}
 
 // The content of a container: D bytes, IV included.
+#[tactic(auto, using(crate::proofs::Parts::unwrapped, crate::proofs::Parts::part), unfolding(crate::specs::Content::content_of))]
 pub fn content(file: &[u8], container: usize) -> &[u8]
     ensures { PartOf file.entry (content_of file.now container) result }
 {
-    let reading = reading::read_file(file);
-    if container < reading.containers {
-        let summary = reading.summaries[container];
-        let stretch = summary.content;
-        let from = stretch.offset;
-        let to = from + stretch.length;
-        &file[from..to]
-    } else {
-        &file[..0]
-    }
+    content_at(file, container).unwrap_or_default().of(file)
 }
 
 // The number of `content`: reading's refusal, then 21.
 pub fn content_refusal(file: &[u8], container: usize) -> Rule
     ensures { number_of result ≡ content_refusal file.now container }
 {
-    let reading = reading::read_file(file);
-    let refusal = reading.refusal;
-    let verdict = refusal.rule;
-    let Rule::Done = verdict else {
-        return verdict;
-    };
-    if reading.containers <= container {
-        return Rule::NoContainer;
-    }
-    Rule::Done
+    content_at(file, container).err().unwrap_or(Rule::Done)
 }
 
-// Where in a container's textual headers the value of the first entry of a name starts, and its length.
-fn value_in(file: &[u8], headers: Stretch, name: &[u8]) -> Found
-    requires { HeadersIn file.now headers }
-    ensures { result ≡ value_in (bytes_in file.now headers) name.now }
+// Where the value of the first textual header of a name in a container stands: reading's refusal, then 21, then 22.
+#[tactic(auto, using(crate::proofs::Readings::passed_on, crate::proofs::Parts::header_refused, crate::proofs::Parts::searchable, crate::proofs::Parts::header_missing, crate::proofs::Parts::header_given, crate::proofs::Parts::header_found, crate::proofs::Parts::value_held))]
+fn header_value(file: &[u8], container: usize, name: &[u8]) -> Result<Stretch, Rule>
+    ensures gives { Gives (textual_header_refusal file.now container name.now) (header_in file.now container name.now) result }
+    ensures inside { IfOk result (Inside file.now) }
 {
-    let from = headers.offset;
-    let to = from + headers.length;
-    strings::find(&file[from..to], name)
+    let headers = summary_at(file, container)?.headers;
+    let found = strings::find(headers.of(file), name);
+    let (start, length) = found.ok_or(Rule::NoTextualHeader)?;
+    Ok(Stretch {
+        offset: headers.offset + start,
+        length,
+    })
 }
 
 // The value of the first textual header of a name in a container, ASCII letters in either case.
+#[tactic(auto, using(crate::proofs::Parts::unwrapped, crate::proofs::Parts::part), unfolding(crate::specs::Header::header_in, crate::specs::Header::textual_header_of))]
 pub fn textual_header<'a>(file: &'a [u8], container: usize, name: &[u8]) -> &'a [u8]
     ensures { PartOf file.entry (textual_header_of file.now container name.now) result }
 {
-    let reading = reading::read_file(file);
-    if container < reading.containers {
-        let summary = reading.summaries[container];
-        let headers = summary.headers;
-        let found = value_in(file, headers, name);
-        let Found::At(start, length) = found else {
-            return &file[..0];
-        };
-        let from = headers.offset + start;
-        let to = from + length;
-        &file[from..to]
-    } else {
-        &file[..0]
-    }
+    header_value(file, container, name)
+        .unwrap_or_default()
+        .of(file)
 }
 
 // The number of `textual_header`: reading's refusal, then 21, then 22.
 pub fn textual_header_refusal(file: &[u8], container: usize, name: &[u8]) -> Rule
     ensures { number_of result ≡ textual_header_refusal file.now container name.now }
 {
-    let reading = reading::read_file(file);
-    let refusal = reading.refusal;
-    let reading_verdict = refusal.rule;
-    let Rule::Done = reading_verdict else {
-        return reading_verdict;
-    };
-    if container < reading.containers {
-        let summary = reading.summaries[container];
-        let headers = summary.headers;
-        let found = value_in(file, headers, name);
-        let Found::At(_, _) = found else {
-            return Rule::NoTextualHeader;
-        };
-        Rule::Done
-    } else {
-        Rule::NoContainer
-    }
+    header_value(file, container, name)
+        .err()
+        .unwrap_or(Rule::Done)
 }
 
 // The rights object of an index, sought along the boxes of the mdri at an offset.
+#[tactic(auto, using(crate::proofs::Seeking::seek, crate::proofs::Seeking::past_odrb, crate::proofs::Seeking::past_other))]
 fn rights_at(file: &[u8], mdri: usize, index: usize) -> Stretch
     requires { RightsAt file.now mdri index }
-    ensures { result ≡ rights_in (odrb_at (log_of (read_of 256 file.now)) index) }
+    ensures value { result ≡ rights_in (odrb_at (log_of (read_of 256 file.now)) index) }
+    ensures inside { Inside file.now result }
 {
     let end = file.len();
-    let head = boxes::read_head(file, mdri, end);
-    let mut at = mdri + head.skip;
+    let mut at = mdri + boxes::read_head(file, mdri, end).skip;
     let mut left = index;
     loop {
-        let h = boxes::read_head(file, at, end);
-        let next = at + h.size;
-        if h.boxtype == 0x6f647262 {
+        let head = boxes::read_head(file, at, end);
+        if head.boxtype == ODRB {
             if left == 0 {
-                let from = at + h.skip + 4;
+                // The data stands behind the version and the flags.
+                let start = head.skip + 4;
                 return Stretch {
-                    offset: from,
-                    length: next - from,
+                    offset: at + start,
+                    length: head.size - start,
                 };
             }
             left -= 1;
         }
-        at = next;
+        at += head.size;
     }
 }
 
+// Where the rights object of an index stands: reading's refusal, then 14, then 17.
+#[tactic(auto, using(crate::proofs::Readings::passed_on, crate::proofs::Rights::rights_refused, crate::proofs::Rights::no_mdri, crate::proofs::Rights::no_rights, crate::proofs::Rights::has_rights, crate::proofs::Rights::rights_object_at))]
+fn rights_object(file: &[u8], index: usize) -> Result<Stretch, Rule>
+    ensures gives { Gives (rights_data_refusal file.now index) (rights_in (odrb_at (log_of (read_of 256 file.now)) index)) result }
+    ensures inside { IfOk result (Inside file.now) }
+{
+    let Reading { mdri, rights, .. } = accepted(file)?;
+    if mdri == 0 {
+        return Err(Rule::NoMdri);
+    }
+    if rights <= index {
+        return Err(Rule::NoRights);
+    }
+    Ok(rights_at(file, mdri, index))
+}
+
 // The data of the rights object of an index, in file order: an odrb's bytes after its version and flags.
+#[tactic(auto, using(crate::proofs::Parts::unwrapped, crate::proofs::Parts::part), unfolding(crate::specs::Rights::rights_data_of))]
 pub fn rights_data(file: &[u8], index: usize) -> &[u8]
     ensures { PartOf file.entry (rights_data_of file.now index) result }
 {
-    let reading = reading::read_file(file);
-    if index < reading.rights {
-        let stretch = rights_at(file, reading.mdri, index);
-        let from = stretch.offset;
-        let to = from + stretch.length;
-        &file[from..to]
-    } else {
-        &file[..0]
-    }
+    rights_object(file, index).unwrap_or_default().of(file)
 }
 
 // The number of `rights_data`: reading's refusal, then 14, then 17.
 pub fn rights_data_refusal(file: &[u8], index: usize) -> Rule
     ensures { number_of result ≡ rights_data_refusal file.now index }
 {
-    let reading = reading::read_file(file);
-    let refusal = reading.refusal;
-    let file_verdict = refusal.rule;
-    let Rule::Done = file_verdict else {
-        return file_verdict;
-    };
-    if reading.mdri == 0 {
-        return Rule::NoMdri;
-    }
-    if reading.rights <= index {
-        return Rule::NoRights;
-    }
-    Rule::Done
+    rights_object(file, index).err().unwrap_or(Rule::Done)
 }
