@@ -2,10 +2,11 @@
 #![tactic(auto)]
 
 ghost use Rattle.std.specs.Prelude.{◌≤◌, length, IfOk};
-ghost use Rattle.text.specs.Put.{Laid};
+ghost use Rattle.text.specs.Laid.{Laid};
 ghost use Rattle.text.specs.Text.{file_text};
 ghost use Rattle.listing.specs.Printed.{printed};
 
+use format::Row;
 use std::io;
 use std::io::Read;
 
@@ -13,8 +14,8 @@ use std::io::Read;
 fn list(file: &[u8], out: &mut [u8]) -> usize
     ensures { Laid (file_text file.now) out.old out.new result }
 {
-    let mut room = [0usize; 1024];
-    let reading = reading::read_rows(file, &mut room);
+    let mut room = [Row::default(); 256];
+    let reading = rows::read(file, &mut room);
     text::put_listing(out, reading, &room)
 }
 

@@ -1,3 +1,4 @@
+pub mod Adds
+pub mod Laid
 pub mod Number
-pub mod Put
 pub mod Text

@@ -1,5 +1,5 @@
 -- The text of a listing, as bytes (document 01, Worked files). Assumes nothing.
-use Rattle.std.specs.Prelude.{ℕ, ◌+◌, ◌*◌, min, List, [], ◌∷◌, ◌++◌, take, get_or, eqb}
+use Rattle.std.specs.Prelude.{ℕ, min, List, [], ◌∷◌, ◌++◌, take, eqb}
 use Rattle.numbers.specs.Choice.{pick}
 use Rattle.format.specs.declared.Row.{Row}
 use Rattle.format.specs.declared.Refusal.{Refusal}
@@ -52,20 +52,6 @@ file_text s = listing_of (answer_of (read_of 256 s)) (rows (boxes_of (read_of 25
 unfoldable pub unread_text : List ℕ
 unread_text = ascii "unread\n"
 
--- ---- rows as four numbers each
-
--- the rows of a list of numbers; fewer than four at its end are none
-unfoldable pub rows_from : List ℕ → List Row
-rows_from (a ∷ b ∷ c ∷ d ∷ l) = record { offset = a; size = b; depth = c; boxtype = d } ∷ rows_from l
-rows_from (a ∷ b ∷ c ∷ []) = []
-rows_from (a ∷ b ∷ []) = []
-rows_from (a ∷ []) = []
-rows_from [] = []
-
--- row i of them
-abbrev pub row_at : List ℕ → ℕ → Row
-row_at l i = record { offset = get_or l (4 * i) 0; size = get_or l (4 * i + 1) 0; depth = get_or l (4 * i + 2) 0; boxtype = get_or l (4 * i + 3) 0 }
-
--- those that are shown: as many as were counted, and 256 at most
-unfoldable pub shown : Reading → List ℕ → List Row
-shown r l = take (min r.boxes 256) (rows_from l)
+-- the rows that are shown: as many as were counted, and 256 at most
+unfoldable pub shown : Reading → List Row → List Row
+shown r rows = take (min r.boxes 256) rows

@@ -1,177 +1,137 @@
-// The listing of a reading, as text, byte by byte.
+// The listing of a reading, as text, piece by piece.
 #![tactic(auto)]
 
-ghost use Rattle.std.specs.Prelude.{◌≡◌, ◌+◌, ◌*◌, ◌≤◌, ◌<◌, min, length, take};
-ghost use Rattle.io.specs.Counts.{IsPrefixLen};
-ghost use Rattle.text.specs.Number.{decimal, hex8, field, entry};
-ghost use Rattle.text.specs.Put.{Put, Laid};
-ghost use Rattle.text.specs.Text.{totals, row_line, row_lines, refused_text, listing_of, unread_text, rows_from, row_at, shown};
+ghost use Rattle.std.specs.Prelude.{◌+◌, ◌*◌, length};
+ghost use Rattle.text.specs.Adds.{HasRoom, Adds};
+ghost use Rattle.text.specs.Laid.{Laid};
+ghost use Rattle.text.specs.Number.{hex8, field, entry};
+ghost use Rattle.text.specs.Text.{totals, row_line, row_lines, refused_text, listing_of, unread_text, shown};
 
-use format::{Reading, Refusal, Row};
+use arrayvec::ArrayString;
+use format::{Reading, Refusal, Row, Rule};
+use itoa::Buffer;
+use std::str;
 
-// Writes s at `at`, and answers the place after it.
-fn put(out: &mut [u8], at: usize, s: &[u8]) -> usize
-    requires { at + length s.now ≤ length out.old }
-    ensures { Put out.old out.new at result s.now }
-{
-    let mut i = 0;
-    while i < s.len() {
-        out[at + i] = s[i];
-        i += 1;
-    }
-    at + i
-}
-
-fn put_decimal(out: &mut [u8], at: usize, n: usize) -> usize
-    requires { at + 20 ≤ length out.old }
-    ensures { (Put out.old out.new at result (decimal n)) × (result ≤ at + 20) }
-{
-    let mut digits = [0u8; 20];
-    let k = io::decimal(n as u64, &mut digits);
-    put(out, at, &digits[..k])
-}
-
-fn put_hex(out: &mut [u8], at: usize, n: usize) -> usize
-    requires { at + 8 ≤ length out.old }
-    ensures { (Put out.old out.new at result (hex8 n)) × (result ≤ at + 8) }
-{
-    let mut digits = [0u8; 16];
-    let low = (n % 4294967296) as u64;
-    let k = io::hex(low, 8, &mut digits);
-    put(out, at, &digits[..k])
-}
+// A text with room for the longest listing (HasRoom).
+type Text = ArrayString<19627>;
 
 // Writes a word and a number.
-fn put_field(out: &mut [u8], at: usize, s: &[u8], n: usize) -> usize
-    requires { at + length s.now + 20 ≤ length out.old }
-    ensures { (Put out.old out.new at result (field s.now n)) × (result ≤ at + length s.now + 20) }
+fn put_field(text: &mut Text, word: &str, n: usize)
+    requires { HasRoom text.old (length word.now + 20) }
+    ensures { Adds text.old text.new (field word.now n) (length word.now + 20) }
 {
-    let p = put(out, at, s);
-    put_decimal(out, p, n)
+    let mut digits = Buffer::new();
+    text.push_str(word);
+    text.push_str(digits.format(n));
+}
+
+// Writes the low 32 bits in base 16, as eight digits.
+#[tactic(auto, using(crate::proofs::Laws::hex_utf8, crate::proofs::Laws::hex_length, crate::proofs::Laws::hex_text))]
+fn put_hex(text: &mut Text, n: usize)
+    requires { HasRoom text.old 8 }
+    ensures { Adds text.old text.new (hex8 n) 8 }
+{
+    let mut digits = [0u8; 16];
+    let k = io::hex((n % 4294967296) as u64, 8, &mut digits);
+    text.push_str(str::from_utf8(&digits[..k]).unwrap());
 }
 
 // Writes a line: a key, a number, and the line's end.
-fn put_entry(out: &mut [u8], at: usize, key: &[u8], n: usize) -> usize
-    requires { at + length key.now + 21 ≤ length out.old }
-    ensures { (Put out.old out.new at result (entry key.now n)) × (result ≤ at + length key.now + 21) }
+#[tactic(auto, unfolding(crate::specs::Number::entry))]
+fn put_entry(text: &mut Text, key: &str, n: usize)
+    requires { HasRoom text.old (length key.now + 21) }
+    ensures { Adds text.old text.new (entry key.now n) (length key.now + 21) }
 {
-    let p = put_field(out, at, key, n);
-    put(out, p, b"\n")
+    put_field(text, key, n);
+    text.push_str("\n");
 }
 
-fn put_totals(out: &mut [u8], reading: Reading) -> usize
-    requires { 171 ≤ length out.old }
-    ensures { (Put out.old out.new 0 result (totals reading)) × (result ≤ 171) }
+fn put_totals(text: &mut Text, reading: Reading)
+    requires { HasRoom text.old 171 }
+    ensures { Adds text.old text.new (totals reading) 171 }
 {
-    let mut p = put_entry(out, 0, b"verdict=", 0);
-    p = put_entry(out, p, b"boxes=", reading.boxes);
-    p = put_entry(out, p, b"containers=", reading.containers);
-    p = put_entry(out, p, b"mutable=", reading.mdri);
-    p = put_entry(out, p, b"rights=", reading.rights);
-    put_entry(out, p, b"free=", reading.free)
+    put_entry(text, "verdict=", 0);
+    put_entry(text, "boxes=", reading.boxes);
+    put_entry(text, "containers=", reading.containers);
+    put_entry(text, "mutable=", reading.mdri);
+    put_entry(text, "rights=", reading.rights);
+    put_entry(text, "free=", reading.free);
 }
 
-fn put_refused(out: &mut [u8], refusal: Refusal) -> usize
-    requires { 171 ≤ length out.old }
-    ensures { (Put out.old out.new 0 result (refused_text refusal)) × (result ≤ 171) }
+#[tactic(auto, unfolding(crate::specs::Text::refused_text))]
+fn put_refused(text: &mut Text, refusal: Refusal)
+    requires { HasRoom text.old 56 }
+    ensures { Adds text.old text.new (refused_text refusal) 56 }
 {
-    let rule = refusal.rule;
-    let verdict = format::number(rule) as usize;
-    let p = put_entry(out, 0, b"verdict=", verdict);
-    put_entry(out, p, b"place=", refusal.place)
+    let Refusal { rule, place } = refusal;
+    put_entry(text, "verdict=", u32::from(rule) as usize);
+    put_entry(text, "place=", place);
 }
 
-fn put_row(out: &mut [u8], at: usize, row: Row) -> usize
-    requires { at + 76 ≤ length out.old }
-    ensures { (Put out.old out.new at result (row_line row)) × (result ≤ at + 76) }
+#[tactic(auto, unfolding(crate::specs::Text::row_line))]
+fn put_row(text: &mut Text, row: Row)
+    requires { HasRoom text.old 76 }
+    ensures { Adds text.old text.new (row_line row) 76 }
 {
-    let mut p = put_field(out, at, b"row=", row.offset);
-    p = put_field(out, p, b",", row.size);
-    p = put_field(out, p, b",", row.depth);
-    p = put(out, p, b",");
-    p = put_hex(out, p, row.boxtype);
-    put(out, p, b"\n")
+    put_field(text, "row=", row.offset);
+    put_field(text, ",", row.size);
+    put_field(text, ",", row.depth);
+    text.push_str(",");
+    put_hex(text, row.boxtype);
+    text.push_str("\n");
 }
 
-fn row_at(rows: &[usize], i: usize) -> Row
-    requires { 4 * i + 4 ≤ length rows.now }
-    ensures { result ≡ row_at rows.now i }
+#[tactic(auto, unfolding(crate::specs::Text::row_lines))]
+fn put_rows(text: &mut Text, rows: &[Row])
+    requires { HasRoom text.old (76 * length rows.now) }
+    ensures { Adds text.old text.new (row_lines rows.now) (76 * length rows.now) }
 {
-    let offset = rows[4 * i];
-    let size = rows[4 * i + 1];
-    let depth = rows[4 * i + 2];
-    let boxtype = rows[4 * i + 3];
-    Row {
-        offset: offset,
-        size: size,
-        depth: depth,
-        boxtype: boxtype,
+    for row in rows {
+        put_row(text, *row);
     }
 }
 
-// Writes the lines of the first n rows.
-fn put_rows(out: &mut [u8], at: usize, rows: &[usize], n: usize) -> usize
-    requires { (at + 76 * n ≤ length out.old) × (4 * n ≤ length rows.now) }
-    ensures { (Put out.old out.new at result (row_lines (take n (rows_from rows.now)))) × (result ≤ at + 76 * n) }
+// Writes the listing with these rows.
+#[tactic(auto, unfolding(crate::specs::Text::listing_of))]
+fn render(text: &mut Text, reading: Reading, rows: &[Row])
+    requires { HasRoom text.old (171 + 76 * length rows.now) }
+    ensures { Adds text.old text.new (listing_of reading rows.now) (171 + 76 * length rows.now) }
 {
-    let mut p = at;
-    let mut i: usize = 0;
-    while i < n {
-        let row = row_at(rows, i);
-        p = put_row(out, p, row);
-        i += 1;
+    if reading.refusal.rule != Rule::Done {
+        return put_refused(text, reading.refusal);
     }
-    p
-}
-
-// The listing with n rows, in a buffer that holds the longest.
-fn render(out: &mut [u8], reading: Reading, rows: &[usize], n: usize) -> usize
-    requires { (171 + 76 * n ≤ length out.old) × (4 * n ≤ length rows.now) }
-    ensures prefix_len { IsPrefixLen result out.new }
-    ensures out_after { take result out.new ≡ listing_of reading (take n (rows_from rows.now)) }
-{
-    let refusal = reading.refusal;
-    let rule = refusal.rule;
-    if format::number(rule) != 0 {
-        return put_refused(out, refusal);
-    }
-    let at = put_totals(out, reading);
-    put_rows(out, at, rows, n)
+    put_totals(text, reading);
+    put_rows(text, rows);
 }
 
 // Lays a whole text into a buffer, if it fits, and answers its length.
-fn lay(out: &mut [u8], s: &[u8]) -> usize
+#[tactic(auto, unfolding(crate::specs::Laid::laid, crate::specs::Laid::laid_length))]
+fn lay(out: &mut [u8], s: &str) -> usize
     ensures { Laid s.now out.old out.new result }
 {
-    if out.len() < s.len() {
+    let n = s.len();
+    if out.len() < n {
         return 0;
     }
-    put(out, 0, s)
-}
-
-fn least(a: usize, b: usize) -> usize
-    ensures { result ≡ min a b }
-{
-    if a < b {
-        return a;
-    }
-    b
+    out[..n].copy_from_slice(s.as_bytes());
+    n
 }
 
 // Writes the listing and answers its length; where it does not fit, writes nothing and answers 0.
-pub fn put_listing(out: &mut [u8], reading: Reading, rows: &[usize]) -> usize
+#[tactic(auto, unfolding(crate::specs::Text::shown))]
+pub fn put_listing(out: &mut [u8], reading: Reading, rows: &[Row]) -> usize
     ensures { Laid (listing_of reading (shown reading rows.now)) out.old out.new result }
 {
-    let most = least(reading.boxes, 256);
-    let n = least(most, rows.len() / 4);
-    let mut space = [0u8; 19627];
-    let k = render(&mut space, reading, rows, n);
-    lay(out, &space[..k])
+    let n = reading.boxes.min(256).min(rows.len());
+    let mut text = Text::new();
+    render(&mut text, reading, &rows[..n]);
+    lay(out, text.as_str())
 }
 
 // Writes the line of an unread file and answers its length; where it does not fit, writes nothing and answers 0.
+#[tactic(auto, unfolding(crate::specs::Text::unread_text))]
 pub fn put_unread(out: &mut [u8]) -> usize
     ensures { Laid unread_text out.old out.new result }
 {
-    lay(out, b"unread\n")
+    lay(out, "unread\n")
 }

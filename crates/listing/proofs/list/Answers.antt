@@ -1,8 +1,7 @@
 -- The rows that reading leaves in the room are those of the listing. Assumes nothing.
 use borrow.Author.Rules.{rules}
-use Rattle.text.proofs.Laws.{laid_as}
 use Rattle.listing.proofs.Laws.{file-text}
 use Rattle.listing.proofs.list.Goals as goal
 
 pub returns : goal.returns
-returns c = laid_as (file-text c.read_rows-reading.ensures (search rules)) c.put_listing.ensures
+returns c = rw (file-text c.read-reading.ensures (search rules)) at c.put_listing.ensures

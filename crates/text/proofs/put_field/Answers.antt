@@ -1,9 +1,12 @@
 -- A word, then a number. Assumes nothing.
-use borrow.Author.Rules.{rules}
-use Rattle.text.specs.Number.{field}
-use Rattle.text.proofs.Laws.{then}
+use Rattle.std.proofs.Common.{rules, ◌≡◌, ◌∙◌, append_assoc}
+use Rattle.text.proofs.Laws.{decimal_text}
+use Rattle.text.specs.Number.{field, decimal}
 use Rattle.text.proofs.put_field.Goals as goal
 
 pub returns : goal.returns
 unfolding field
-returns c = (then c.put-p.ensures c.put_decimal.ensures.0, search rules)
+returns c =
+    let number : c.format.result.now ≡ decimal c.args.n = c.format.ensures.text ∙ decimal_text c.args.n (search rules) in
+    let word = append_assoc c.args.text.now.bytes c.args.word.now (decimal c.args.n) in
+    record { bytes = c.push_str-2.ensures.bytes ∙ rw (number, c.push_str.ensures.bytes) word; len = search rules }

@@ -1,14 +1,7 @@
--- What the functions that write into a lent buffer do. Assumes nothing.
-use Rattle.std.specs.Prelude.{◌≡◌, ℕ, ◌+◌, List, ◌++◌, length, drop, leb}
-use Rattle.std.proofs.lemmas.List.Edits.{sets}
+-- What the functions that lay a text into a lent buffer do. Assumes nothing.
+use Rattle.std.specs.Prelude.{◌≡◌, ℕ, List, ◌++◌, length, drop, leb}
 use Rattle.numbers.specs.Choice.{pick}
 use Rattle.io.specs.Counts.{IsPrefixLen}
-
--- at a running place: `new` is `old` with the bytes s from `at` on, and nothing else changed; `next` is the place after them
-pub record Put (old new : List ℕ) (at next : ℕ) (s : List ℕ) : Type 0 where
-  pub bytes : new ≡ sets old at s
-  pub place : next ≡ at + length s
-  pub same : length new ≡ length old
 
 -- a whole text in a buffer: the text, then the old bytes from there on; if it does not fit, the old bytes
 unfoldable pub laid : List ℕ → List ℕ → List ℕ
