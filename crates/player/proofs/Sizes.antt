@@ -1,32 +1,28 @@
 -- How long an answer is: 2,224 bytes before the rows, and 32 for each row. Assumes nothing.
 use mathlib.Core.Path.{◌≡◌, refl, ◌∙◌}
-use Prim.Native.Nat.{◌+◌, ◌*◌}
+use Prim.Native.Nat.{ℕ, ◌+◌, ◌*◌}
+use native.Mathlib.Nat.{mul-suc}
 use native.Mathlib.Omega.{arith}
-use mathlib.Core.List.{List, [], ◌∷◌, ◌++◌}
+use mathlib.Core.List.{List, [], ◌∷◌}
 use lib.ListN.{length, length-append}
+use Rattle.std.specs.List.{flat_map}
 use Rattle.format.specs.declared.Row.{Row}
-use Rattle.format.specs.declared.Summary.{Summary}
 use Rattle.format.specs.declared.Reading.{Reading}
-use Rattle.player.specs.Layout.{row_numbers, full_numbers, stretch_numbers, fulls_numbers, method_numbers, stretches_numbers, summary_numbers, summaries_numbers, count_numbers, rows_numbers, answer_numbers, answer_bytes}
+use Rattle.player.specs.Layout.{row_numbers, summary_numbers, reading_numbers, answer_numbers, answer_bytes}
 use Rattle.player.proofs.Laws.{length-words}
 
-length-rows : (l : List Row) → length (rows_numbers l) ≡ 4 * length l
-unfolding rows_numbers row_numbers
-length-rows [] = refl
-length-rows (x ∷ l) = omega (arith, length-rows l)
+-- values of k numbers each
+length-each : {X : Type 0} (f : X → List ℕ) (k : ℕ) → ((x : X) → length (f x) ≡ k) → (xs : List X) → length (flat_map f xs) ≡ k * length xs
+length-each f k h [] = omega arith
+length-each f k h (x ∷ xs) = length-append (f x) (flat_map f xs) ∙ rw (h x, length-each f k h xs, mul-suc) (omega arith)
 
-length-summary : (x : Summary) → length (summary_numbers x) ≡ 34
-unfolding summary_numbers fulls_numbers method_numbers stretches_numbers full_numbers stretch_numbers
-length-summary x = refl
+pub length-reading : (r : Reading) → length r.summaries ≡ 8 → length (reading_numbers r) ≡ 278
+length-reading r e = omega (arith, length-each summary_numbers 34 (λ x. refl) r.summaries, e)
 
-length-summaries : (xs : List Summary) → length (summaries_numbers xs) ≡ 34 * length xs
-unfolding summaries_numbers
-length-summaries [] = refl
-length-summaries (x ∷ xs) = length-append (summary_numbers x) (summaries_numbers xs) ∙ rw (length-summary x, length-summaries xs) (omega arith)
+pub length-rows : (l : List Row) → length (flat_map row_numbers l) ≡ 4 * length l
+length-rows = length-each row_numbers 4 (λ x. refl)
 
 pub length-answer : (r : Reading) (l : List Row) → length r.summaries ≡ 8 → length (answer_bytes r l) ≡ 2224 + 32 * length l
-unfolding answer_bytes answer_numbers count_numbers
+unfolding answer_bytes
 length-answer r l e =
-    length-words (count_numbers r ++ summaries_numbers r.summaries ++ rows_numbers l)
-    ∙ rw (length-append (count_numbers r ++ summaries_numbers r.summaries) (rows_numbers l), length-append (count_numbers r) (summaries_numbers r.summaries), length-summaries r.summaries, length-rows l, e)
-    (omega arith)
+    omega (arith, length-words (answer_numbers r l), length-append (reading_numbers r) (flat_map row_numbers l), length-reading r e, length-rows l)

@@ -12,7 +12,7 @@ use Rattle.format.specs.Tree.{opens, grow, parse}
 use Rattle.format.specs.Judge.{note, no_row, late_at_top, misplaced, missing, ragged, cut, newer, takes, wrong_method, wrong_length, malformed, agrees, wrong_data, again, wrong, and_then, read_of}
 use Rattle.format.specs.Report.{answer_of}
 use Rattle.format.specs.Worked.{file_a}
-use Rattle.player.specs.Layout.{le, words, row_numbers, full_numbers, stretch_numbers, fulls_numbers, method_numbers, stretches_numbers, summary_numbers, summaries_numbers, count_numbers, rows_numbers, answer_numbers, answer_bytes}
+use Rattle.player.specs.Layout.{le, words, answer_bytes}
 use Rattle.player.specs.Call.{rows_lent, answer_after}
 
 pub worked : answer_after (read_of (rows_lent 2450) file_a) (replicate 2450 165)
@@ -24,7 +24,7 @@ pub worked : answer_after (read_of (rows_lent 2450) file_a) (replicate 2450 165)
     ++ (0 ∷ 20 ∷ 0 ∷ 0x66747970 ∷ 20 ∷ 101 ∷ 0 ∷ 0x6f64726d ∷ 40 ∷ 49 ∷ 1 ∷ 0x6f646865 ∷ 56 ∷ 33 ∷ 2 ∷ 0x6f686472 ∷ 89 ∷ 32 ∷ 1 ∷ 0x6f646461
     ∷ 121 ∷ 48 ∷ 0 ∷ 0x6d647269 ∷ 129 ∷ 40 ∷ 1 ∷ 0x66726565 ∷ []))
     ++ (165 ∷ 165 ∷ [])
-unfolding num be same token next after textual other_in kind_of fields_length holds_run inside kind_number same_kind is_six header_length size_of type_of header_fault opens grow parse note no_row late_at_top misplaced missing ragged cut newer takes wrong_method wrong_length malformed agrees wrong_data again wrong and_then read_of answer_of le words row_numbers full_numbers stretch_numbers fulls_numbers method_numbers stretches_numbers summary_numbers summaries_numbers count_numbers rows_numbers answer_numbers answer_bytes answer_after
+unfolding num be same token next after textual other_in kind_of fields_length holds_run inside kind_number same_kind is_six header_length size_of type_of header_fault opens grow parse note no_row late_at_top misplaced missing ragged cut newer takes wrong_method wrong_length malformed agrees wrong_data again wrong and_then read_of answer_of le words answer_bytes answer_after
 worked = refl
 
 pub short : answer_after (read_of (rows_lent 2447) file_a) (replicate 2447 165) ≡ replicate 2447 165

@@ -1,9 +1,8 @@
--- What a put has done: the numbers xs, n of them, stand from `at` on, and `next` is past them. Assumes nothing.
+-- What a put has done: the numbers xs stand from `at` on, and `next` is past them. Assumes nothing.
 use Rattle.std.specs.Prelude.{◌≡◌, ℕ, ◌+◌, ◌*◌, List, length}
 use Rattle.std.proofs.lemmas.List.Edits.{sets}
 use Rattle.player.specs.Layout.{words}
 
-pub record Wrote (o : List ℕ) (at n : ℕ) (xs o' : List ℕ) (next : ℕ) : Type 0 where
+pub record Wrote (o : List ℕ) (at : ℕ) (xs o' : List ℕ) (next : ℕ) : Type 0 where
   pub out : o' ≡ sets o at (words xs)
-  pub size : length xs ≡ n
-  pub past : next ≡ at + 8 * n
+  pub past : next ≡ at + 8 * length xs

@@ -1,192 +1,132 @@
-// The players' side: reading for firmware written in C, over numbers and byte slices. include/dcf.h names the bytes of an answer.
+// The players' side: reading for firmware written in C, over byte slices. include/dcf.h names the bytes of an answer.
 #![tactic(auto)]
 
-ghost use Rattle.std.specs.Prelude.{◌≡◌, [], ◌∷◌, ◌++◌, ◌+◌, ◌*◌, ◌≤◌, length, take};
-ghost use Rattle.reading.specs.Answer.{Answered};
-ghost use Rattle.player.specs.Layout.{full_numbers, fulls_numbers, method_numbers, stretch_numbers, stretches_numbers, summary_numbers, summaries_numbers, count_numbers};
+ghost use Rattle.std.specs.Prelude.{◌≡◌, ℕ, List, [], ◌∷◌, ◌+◌, ◌*◌, ◌≤◌, length, flat_map};
+ghost use Rattle.player.specs.Layout.{row_numbers, full_numbers, stretch_numbers, summary_numbers, reading_numbers};
 ghost use Rattle.player.specs.Wrote.{Wrote};
 ghost use Rattle.player.specs.Call.{rows_lent, Told};
 
-use format::{Full, Reading, Stretch, Summary};
+use format::{Full, Reading, Row, Rule, Stretch, Summary};
 
-// The eight bytes of n, the lowest first. This put and those below answer the next place.
-fn put(out: &mut [u8], at: usize, n: usize) -> usize
-    requires { at + 8 ≤ length out.old }
-    ensures { Wrote out.old at 1 (n ∷ []) out.new result }
+// What stands in an answer as numbers of eight bytes each.
+trait Layout {
+    ghost numbers: { Self → List ℕ };
+
+    // Puts the numbers from `at` on, and answers the next place.
+    fn put(&self, out: &mut [u8], at: usize) -> usize
+        requires { at + 8 * length (numbers self.now) ≤ length out.old }
+        ensures { Wrote out.old at (numbers self.now) out.new result };
+}
+
+// Puts values one behind the other.
+fn put_all<T: Layout>(values: &[T], out: &mut [u8], at: usize) -> usize
+    requires { at + 8 * length (flat_map T.numbers values.now) ≤ length out.old }
+    ensures { Wrote out.old at (flat_map T.numbers values.now) out.new result }
 {
-    let mut i: usize = 0;
-    let mut m = n;
-    while i < 8 {
-        out[at + i] = (m % 256) as u8;
-        m = m / 256;
-        i += 1;
+    let mut next = at;
+    for value in values {
+        next = value.put(out, next);
     }
-    at + 8
+    next
 }
 
-// The first n of some numbers.
-fn put_numbers(out: &mut [u8], at: usize, numbers: &[usize], n: usize) -> usize
-    requires { (at + 8 * n ≤ length out.old) × (n ≤ length numbers.now) }
-    ensures { Wrote out.old at n (take n numbers.now) out.new result }
-{
-    let mut a = at;
-    let mut i: usize = 0;
-    while i < n {
-        a = put(out, a, numbers[i]);
-        i += 1;
+// Eight bytes, the lowest first.
+impl Layout for usize {
+    ghost numbers = { λ n. n ∷ [] };
+
+    fn put(&self, out: &mut [u8], at: usize) -> usize {
+        out[at..at + 8].copy_from_slice(&self.to_le_bytes());
+        at + 8
     }
-    a
 }
 
-fn put_full(out: &mut [u8], at: usize, full: Full) -> usize
-    requires { at + 40 ≤ length out.old }
-    ensures { Wrote out.old at 5 (full_numbers full) out.new result }
-{
-    let row = full.row;
-    let a1 = put(out, at, row.offset);
-    let a2 = put(out, a1, row.size);
-    let a3 = put(out, a2, row.depth);
-    let a4 = put(out, a3, row.boxtype);
-    put(out, a4, full.flags)
-}
+impl Layout for Row {
+    ghost numbers = { row_numbers };
 
-fn put_stretch(out: &mut [u8], at: usize, stretch: Stretch) -> usize
-    requires { at + 16 ≤ length out.old }
-    ensures { Wrote out.old at 2 (stretch_numbers stretch) out.new result }
-{
-    let a1 = put(out, at, stretch.offset);
-    put(out, a1, stretch.length)
-}
-
-fn put_fulls(out: &mut [u8], at: usize, s: Summary) -> usize
-    requires { at + 160 ≤ length out.old }
-    ensures { Wrote out.old at 20 (fulls_numbers s) out.new result }
-{
-    let odrm = s.odrm;
-    let odhe = s.odhe;
-    let ohdr = s.ohdr;
-    let odda = s.odda;
-    let a1 = put_full(out, at, odrm);
-    let a2 = put_full(out, a1, odhe);
-    let a3 = put_full(out, a2, ohdr);
-    put_full(out, a3, odda)
-}
-
-// Method, padding, plaintext length and data length.
-fn put_method(out: &mut [u8], at: usize, s: Summary) -> usize
-    requires { at + 32 ≤ length out.old }
-    ensures { Wrote out.old at 4 (method_numbers s) out.new result }
-{
-    let p = s.plaintextlength;
-    let d = s.datalength;
-    let a1 = put(out, at, s.method);
-    let a2 = put(out, a1, s.padding);
-    let a3 = put(out, a2, p.0 as usize);
-    put(out, a3, d.0 as usize)
-}
-
-// ContentType, ContentID, RightsIssuerURL, textual headers and data.
-fn put_stretches(out: &mut [u8], at: usize, s: Summary) -> usize
-    requires { at + 80 ≤ length out.old }
-    ensures { Wrote out.old at 10 (stretches_numbers s) out.new result }
-{
-    let contenttype = s.contenttype;
-    let contentid = s.contentid;
-    let issuer = s.issuer;
-    let headers = s.headers;
-    let content = s.content;
-    let a1 = put_stretch(out, at, contenttype);
-    let a2 = put_stretch(out, a1, contentid);
-    let a3 = put_stretch(out, a2, issuer);
-    let a4 = put_stretch(out, a3, headers);
-    put_stretch(out, a4, content)
-}
-
-fn put_summary(out: &mut [u8], at: usize, s: Summary) -> usize
-    requires { at + 272 ≤ length out.old }
-    ensures { Wrote out.old at 34 (summary_numbers s) out.new result }
-{
-    let a1 = put_fulls(out, at, s);
-    let a2 = put_method(out, a1, s);
-    put_stretches(out, a2, s)
-}
-
-fn put_summaries(out: &mut [u8], at: usize, summaries: [Summary; 8]) -> usize
-    requires { at + 2176 ≤ length out.old }
-    ensures { Wrote out.old at 272 (summaries_numbers summaries) out.new result }
-{
-    let mut a = at;
-    let mut i: usize = 0;
-    while i < 8 {
-        let s = summaries[i];
-        a = put_summary(out, a, s);
-        i += 1;
+    fn put(&self, out: &mut [u8], at: usize) -> usize {
+        put_all(&[self.offset, self.size, self.depth, self.boxtype], out, at)
     }
-    a
 }
 
-// Counts and totals, at the front.
-fn put_counts(out: &mut [u8], r: Reading) -> usize
-    requires { 48 ≤ length out.old }
-    ensures { Wrote out.old 0 6 (count_numbers r) out.new result }
-{
-    let a1 = put(out, 0, r.boxes);
-    let a2 = put(out, a1, r.containers);
-    let a3 = put(out, a2, r.mdri);
-    let a4 = put(out, a3, r.rights);
-    let a5 = put(out, a4, r.free);
-    put(out, a5, r.transaction)
+impl Layout for Full {
+    ghost numbers = { full_numbers };
+
+    fn put(&self, out: &mut [u8], at: usize) -> usize {
+        let flags_at = self.row.put(out, at);
+        self.flags.put(out, flags_at)
+    }
 }
 
-// A reading and its rows, n numbers.
-fn put_answer(out: &mut [u8], r: Reading, rows: &[usize], n: usize) -> usize
-    requires { (2224 + 8 * n ≤ length out.old) × (n ≤ length rows.now) }
-    ensures { Wrote out.old 0 (278 + n) (count_numbers r ++ summaries_numbers r.summaries ++ take n rows.now) out.new result }
-{
-    let summaries = r.summaries;
-    let a1 = put_counts(out, r);
-    let a2 = put_summaries(out, a1, summaries);
-    put_numbers(out, a2, rows, n)
+impl Layout for Stretch {
+    ghost numbers = { stretch_numbers };
+
+    fn put(&self, out: &mut [u8], at: usize) -> usize {
+        put_all(&[self.offset, self.length], out, at)
+    }
+}
+
+// The boxes, the method and the lengths, the strings and the data.
+impl Layout for Summary {
+    ghost numbers = { summary_numbers };
+
+    fn put(&self, out: &mut [u8], at: usize) -> usize {
+        let fulls = [self.odrm, self.odhe, self.ohdr, self.odda];
+        let method = [
+            self.method,
+            self.padding,
+            self.plaintextlength.0 as usize,
+            self.datalength.0 as usize,
+        ];
+        let stretches = [
+            self.contenttype,
+            self.contentid,
+            self.issuer,
+            self.headers,
+            self.content,
+        ];
+        let method_at = put_all(&fulls, out, at);
+        let stretches_at = put_all(&method, out, method_at);
+        put_all(&stretches, out, stretches_at)
+    }
+}
+
+// Counts and totals, then the summaries.
+impl Layout for Reading {
+    ghost numbers = { reading_numbers };
+
+    fn put(&self, out: &mut [u8], at: usize) -> usize {
+        let counts = [
+            self.boxes,
+            self.containers,
+            self.mdri,
+            self.rights,
+            self.free,
+            self.transaction,
+        ];
+        let summaries_at = put_all(&counts, out, at);
+        put_all(&self.summaries, out, summaries_at)
+    }
 }
 
 // How many rows an answer of so many bytes lends, and 256 at most.
 fn rows_lent(length: usize) -> usize
     ensures { result ≡ rows_lent length }
 {
-    if length < 2224 {
-        return 0;
-    }
-    let rows = (length - 2224) / 32;
-    if 256 < rows {
-        return 256;
-    }
-    rows
-}
-
-// Reads with so many rows at most, which go to the front of scratch.
-fn read_within(file: &[u8], rows: usize, scratch: &mut [usize]) -> Reading
-    requires { (rows ≤ 256) × (1024 ≤ length scratch.old) }
-    ensures { Answered file.now rows result scratch.new }
-{
-    let n = rows * 4;
-    reading::read_rows(file, &mut scratch[..n])
+    (length.saturating_sub(2224) / 32).min(256)
 }
 
 // Reads a file for a player. The answer gets the reading and the rows counted; where the file is refused it stays as it is.
-#[tactic(auto, using(crate::proofs::Calls::stays))]
 pub fn dcf_read(file: &[u8], answer: &mut [u8]) -> u32
     ensures { Told file.now answer.old result answer.new }
 {
-    let rows = rows_lent(answer.len());
-    let mut scratch = [0usize; 1024];
-    let reading = read_within(file, rows, &mut scratch);
-    let refusal = reading.refusal;
-    let rule = refusal.rule;
-    let number = format::number(rule);
-    if number != 0 {
-        return number;
+    let mut rows = [Row::default(); 256];
+    let lent = &mut rows[..rows_lent(answer.len())];
+    let reading = rows::read(file, lent);
+    let rule = reading.refusal.rule;
+    if rule != Rule::Done {
+        return u32::from(rule);
     }
-    let n = reading.boxes * 4;
-    put_answer(answer, reading, &scratch, n);
-    number
+    let rows_at = reading.put(answer, 0);
+    put_all(&lent[..reading.boxes], answer, rows_at);
+    u32::from(Rule::Done)
 }
