@@ -1,16 +1,18 @@
 -- What the bytes say of a full box that stands in them, and of a container: its header, its fields and where the next box is. Assumes nothing.
-use mathlib.Core.Path.{◌≡◌, sym, ap, ◌∙◌}
+use mathlib.Core.Path.{◌≡◌, refl, sym, ap, ◌∙◌}
 use Prim.Native.Nat.{ℕ, ◌+◌, ◌-◌, ◌≤◌}
 use native.Mathlib.Omega.{arith}
 use mathlib.Core.List.{List}
-use lib.ListN.{length, drop, length-drop}
-use lib.Seq.{slice, length-slice, length-take-le, take-length}
+use lib.ListN.{length, take, drop, length-drop}
+use lib.Seq.{length-slice, length-take-le, take_all}
 use borrow.Author.Tests.{le-ltb}
+use Rattle.std.specs.Prelude.{Result, Ok}
 use Rattle.numbers.specs.Big.{num}
 use Rattle.numbers.proofs.Laws.{num-take, num-slice}
 use Rattle.format.specs.declared.Place.{Place}
 use Rattle.format.specs.declared.Kind.{Kind}
 use Rattle.format.specs.declared.Kind.TheVariants.{Odrm, Odhe, Ohdr, Odda}
+use Rattle.format.specs.declared.Rule.{Rule}
 use Rattle.format.specs.declared.Stretch.{Stretch}
 use Rattle.format.specs.declared.Summary.{Summary}
 use Rattle.format.specs.Kinds.{fields_length}
@@ -85,12 +87,19 @@ module _ {s : List ℕ} {k : Kind} {at depth : ℕ} {x : Box} (o : Opens s k at 
         le-ltb (length b) x.size (omega (arith, ends)),
       )
 
-  pub head : (h : Head) → ((c : Place) → h ≡ head_in c (slice at (length s) s)) → HeadOf x h
+  -- what is read there is its header
+  pub head : {r : Result Head Rule} → ((c : Place) → r ≡ head_in c (take (length s - at) (drop at s))) → r ≡ Ok (record { size = x.size; skip = x.skip; boxtype = x.type })
   unfolding head_in size_of
-  head h e =
-      let b : List ℕ = drop x.at s in
-      let w : slice at (length s) s ≡ b = ap (drop at) (take-length s) ∙ ap (λ (n : ℕ). drop n s) (sym o.here) in
-      rw (e x.place, w, fine) (record { size = sym o.stands.size; skip = sym o.stands.skip; boxtype = sym o.stands.type })
+  head e =
+      let l : length (drop at s) ≡ length s - at = length-drop at s in
+      let w : take (length s - at) (drop at s) ≡ drop x.at s = take_all (length s - at) (drop at s) (omega arith) ∙ ap (λ (n : ℕ). drop n s) (sym o.here) in
+      e x.place ∙ rw (w, fine) (ap (λ (h : Head). Ok h) (rw (o.stands.size, o.stands.skip, o.stands.type)))
+
+  pub head-of : {r : Result Head Rule} {h : Head} → ((c : Place) → r ≡ head_in c (take (length s - at) (drop at s))) → r ≡ Ok h → HeadOf x h
+  head-of {r} {h} e i = same h (sym (head e) ∙ i)
+    where
+      same : (h : Head) → ◌≡◌ {A = Result Head Rule} (Ok (record { size = x.size; skip = x.skip; boxtype = x.type })) (Ok h) → HeadOf x h
+      same h q = let p : h ≡ record { size = x.size; skip = x.skip; boxtype = x.type } = cc in rw p (record { size = refl; skip = refl; boxtype = refl })
 
   -- the version and flags stand in s
   pub flags-in : {h : Head} → HeadOf x h → at + h.skip + 4 ≤ length s

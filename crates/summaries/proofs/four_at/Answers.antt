@@ -19,8 +19,8 @@ overflow_add-odhe c =
     let e = odhe-read h c.opened_at-odrm.ensures c.opened_at-odhe.ensures in
     omega (arith, type-in h e)
 
-pub read_1-length-requires : goal.read_1-length-requires
-read_1-length-requires c =
+pub read-length-requires-clause-within : goal.read-length-requires-clause-within
+read-length-requires-clause-within c =
     let h = c.requires.1 in
     let e = odhe-read h c.opened_at-odrm.ensures c.opened_at-odhe.ensures in
     omega (arith, type-in h e)
@@ -29,14 +29,14 @@ pub overflow_add-start-2 : goal.overflow_add-start-2
 overflow_add-start-2 c =
     let h = c.requires.1 in
     let e = odhe-read h c.opened_at-odrm.ensures c.opened_at-odhe.ensures in
-    let o = ohdr-opens h e c.read_1-length.ensures.value in
+    let o = ohdr-opens h e c.read-length.ensures.value in
     omega (arith, o.here, ends o)
 
 pub opened_at-ohdr-requires : goal.opened_at-ohdr-requires
 opened_at-ohdr-requires c =
     let h = c.requires.1 in
     let e = odhe-read h c.opened_at-odrm.ensures c.opened_at-odhe.ensures in
-    (Ohdr, _, ohdr-opens h e c.read_1-length.ensures.value)
+    (Ohdr, _, ohdr-opens h e c.read-length.ensures.value)
 
 pub opened_at-odda-requires : goal.opened_at-odda-requires
 opened_at-odda-requires c =
@@ -45,5 +45,5 @@ opened_at-odda-requires c =
 
 pub returns : goal.returns
 returns c = λ k h.
-    four h c.opened_at-odrm.ensures c.opened_at-odhe.ensures c.read_1-length.ensures.value c.opened_at-ohdr.ensures
+    four h c.opened_at-odrm.ensures c.opened_at-odhe.ensures c.read-length.ensures.value c.opened_at-ohdr.ensures
     c.opened_at-odda.ensures

@@ -1,27 +1,20 @@
 -- What is read at an offset is the box that stands there. Assumes nothing.
+use mathlib.Core.Path.{refl}
 use native.Mathlib.Omega.{arith}
-use Rattle.summaries.proofs.Laws.{head, flags-in, end-in, opened}
+use Rattle.summaries.proofs.Laws.{head, head-of, flags-in, opened}
 use Rattle.summaries.proofs.opened_at.Goals as goal
 
+pub unwrap-head-requires : goal.unwrap-head-requires
+unwrap-head-requires c = rw (head c.requires.2 c.read_head.ensures.gives) refl
+
 pub overflow_add-fields : goal.overflow_add-fields
-overflow_add-fields c =
-    let o = c.requires.2 in
-    omega (arith, flags-in o (head o _ c.read_head-head.ensures))
+overflow_add-fields c = omega (arith, flags-in c.requires.2 (head-of c.requires.2 c.read_head.ensures.gives c.unwrap-head.ensures))
 
 pub overflow_add-fields-2 : goal.overflow_add-fields-2
-overflow_add-fields-2 c =
-    let o = c.requires.2 in
-    omega (arith, flags-in o (head o _ c.read_head-head.ensures))
+overflow_add-fields-2 c = omega (arith, flags-in c.requires.2 (head-of c.requires.2 c.read_head.ensures.gives c.unwrap-head.ensures))
 
-pub read_3-requires : goal.read_3-requires
-read_3-requires c =
-    let o = c.requires.2 in
-    omega (arith, flags-in o (head o _ c.read_head-head.ensures))
-
-pub overflow_add-result : goal.overflow_add-result
-overflow_add-result c =
-    let o = c.requires.2 in
-    omega (arith, end-in o (head o _ c.read_head-head.ensures))
+pub read-flags-requires-clause-within : goal.read-flags-requires-clause-within
+read-flags-requires-clause-within c = omega (arith, flags-in c.requires.2 (head-of c.requires.2 c.read_head.ensures.gives c.unwrap-head.ensures))
 
 pub returns : goal.returns
-returns c = λ k x o. opened o _ _ (head o _ c.read_head-head.ensures) c.read_3.ensures.value
+returns c = λ k x o. opened o _ _ (head-of o c.read_head.ensures.gives c.unwrap-head.ensures) c.read-flags.ensures.value
