@@ -1,27 +1,30 @@
 -- The answer follows from what the walk keeps. Assumes nothing.
-use mathlib.Core.Path.{◌≡◌, refl, sym, ap, ◌∙◌}
-use Prim.Native.Nat.{ℕ, suc, ◌≤◌}
+use mathlib.Core.Path.{◌≡◌, refl, sym, ap, subst, ◌∙◌}
+use Prim.Native.Nat.{ℕ, suc, ◌≤◌, min}
 use native.Mathlib.Omega.{arith}
-use mathlib.Core.List.{List, [], ◌∷◌, map}
-use lib.ListN.{length, drop}
+use mathlib.Core.List.{List, [], ◌∷◌, ◌++◌, map}
+use lib.ListN.{length, take, drop, take-append-drop, replicate, length-map}
+use lib.Seq.{take_all}
+use Rattle.std.specs.Prelude.{Result, Ok, Err}
+use Rattle.format.specs.declared.Refusal.{Refusal}
 use Rattle.format.specs.declared.Rule.TheVariants.{Done}
 use Rattle.format.specs.declared.Reading.{Reading}
+use Rattle.format.specs.declared.Row.{Row}
 use Rattle.format.specs.declared.Summary.{Summary}
 use Rattle.format.specs.declared.Kind.TheVariants.{Odrm, Odhe, Ohdr, Odda}
 use Rattle.format.specs.Boxes.{Box, only, Container}
-use Rattle.format.specs.Judge.{fault, done, read_of}
-use Rattle.format.specs.Report.{summary_of, group, containers_in, eight, answer_of, refused_by}
-use Rattle.format.proofs.Refused.{refused}
+use Rattle.format.specs.Judge.{Out, fault, done, read_of}
+use Rattle.format.specs.Report.{rows, no_summary, summary_of, group, containers_in, eight, answer_of}
+use Rattle.format.proofs.Exact.{reported}
 use Rattle.summaries.specs.Contained.{Begun, Listed}
 use Rattle.summaries.proofs.Accepted.{accepted-contained, kept-listed, listed-begun}
+use Rattle.walk.specs.declared.Kept.{Kept}
 use Rattle.walk.specs.declared.Tally.{Tally}
-use Rattle.walk.specs.declared.Walk.{Walk}
-use Rattle.walk.specs.Keeping.{Holds}
-use Rattle.walk.specs.Walking.{Walked}
-use Rattle.walk.proofs.Steps.{walked-refused, walked-done}
-use Rattle.reading.specs.Answer.{Answered}
+use Rattle.walk.specs.Walking.{refusal, Finished, Walked}
+use Rattle.walk.proofs.Steps.{err-same, ok-same, ok-not-err}
+use Rattle.reading.specs.Answer.{Answered, ReadOver}
 
-pub length-group : (xs es os ds : List Box) → length (group xs es os ds) ≡ length xs
+length-group : (xs es os ds : List Box) → length (group xs es os ds) ≡ length xs
 length-group [] es os ds = refl
 length-group (x ∷ xs) es os ds = ap suc (length-group xs (drop 1 es) (drop 1 os) (drop 1 ds))
 
@@ -30,57 +33,83 @@ group_at : (xs es os ds : List Box) → map (λ c. c.odrm.at) (group xs es os ds
 group_at [] es os ds = refl
 group_at (x ∷ xs) es os ds = ap (λ (l : List ℕ). x.at ∷ l) (group_at xs (drop 1 es) (drop 1 os) (drop 1 ds))
 
-pub refused-most : {s : List ℕ} {cap : ℕ} {w : Walk} {out marks : List ℕ} → Walked s cap w out marks → (w.number ≡ 0 → ⊥) → w.number ≤ 13
-refused-most {s} {cap} {w} u z = (refused cap s w.number w.at (walked-refused u z)).range.1
+-- ---- refused
 
-pub answered-refused : {s : List ℕ} {cap : ℕ} {w : Walk} {out marks : List ℕ} {r : Reading} → Walked s cap w out marks → (w.number ≡ 0 → ⊥)
-    → r ≡ refused_by w.number w.at → Answered s cap r out
-unfolding answer_of
-answered-refused {s} {cap} {w} {out} {marks} {r} u z e = record {
-  answer = e ∙ sym (rw (walked-refused u z));
-  rows = λ log f. let x : ◌≡◌ {A = ℕ} 0 1 = apart log (sym f ∙ walked-refused u z) in absurd (omega arith);
+pub answered-refused : {s : List ℕ} {cap : ℕ} {t : Result Kept Refusal} {e : Refusal} {none : Summary} {old new : List Row} → Walked s cap (read_of cap s) t old new → t ≡ Err e
+    → none ≡ no_summary
+    → Answered s cap old (record { refusal = e; boxes = 0; containers = 0; summaries = replicate 8 none; mdri = 0; rights = 0; free = 0; transaction = 0 }) new
+unfolding Walked answer_of
+answered-refused {s} {cap} {t} {e} {none} {old} {new} w i z = go (read_of cap s) refl w
+  where
+    go : (o : Out) → read_of cap s ≡ o → Walked s cap o t old new
+        → Answered s cap old (record { refusal = e; boxes = 0; containers = 0; summaries = replicate 8 none; mdri = 0; rights = 0; free = 0; transaction = 0 }) new
+    go (fault k p) f u =
+        let q : e ≡ refusal k p = err-same (sym i ∙ u.0) in
+        record { answer = rw (f, q, z) refl; rows = λ log g. absurd (apart log (sym f ∙ g)) }
+      where
+        apart : (log : List Box) → fault k p ≡ done log → ⊥
+        apart log a = absurd (cc)
+    go (done l) f u = absurd (ok-not-err (sym u.1 ∙ i))
+
+-- ---- accepted
+
+pub record Accepted (s : List ℕ) (cap : ℕ) (x : Kept) (old new : List Row) : Type 0 where
+  pub log : List Box
+  pub read : read_of cap s ≡ done log
+  pub kept : Finished s cap log x old new
+
+pub accepted : {s : List ℕ} {cap : ℕ} {t : Result Kept Refusal} {x : Kept} {old new : List Row} → Walked s cap (read_of cap s) t old new → t ≡ Ok x → Accepted s cap x old new
+unfolding Walked
+accepted {s} {cap} {t} {x} {old} {new} w i = go (read_of cap s) refl w
+  where
+    go : (o : Out) → read_of cap s ≡ o → Walked s cap o t old new → Accepted s cap x old new
+    go (fault k p) f u = absurd (ok-not-err (sym i ∙ u.0))
+    go (done l) f u = record { log = l; read = f; kept = subst (λ (y : Kept). Finished s cap l y old new) (ok-same (sym u.1 ∙ i)) u.2 }
+
+module _ {s : List ℕ} {cap : ℕ} {x : Kept} {old new : List Row} (a : Accepted s cap x old new) where
+  abbrev starts : List ℕ
+  starts = take x.tally.containers x.starts
+
+  counted : length starts ≡ length (only Odrm a.log)
+  counted = ap length a.kept.holds.starts ∙ length-map (only Odrm a.log) (λ (y : Box). y.at)
+
+  pub most : x.tally.containers ≤ 8
+  most = a.kept.most
+
+  -- its containers are those that stand there
+  listed : Listed s starts (length starts) (containers_in a.log)
+  listed =
+      kept-listed s starts (length starts) (containers_in a.log)
+      (length-group (only Odrm a.log) (only Odhe a.log) (only Ohdr a.log) (only Odda a.log) ∙ sym counted)
+      (take_all (length starts) starts (omega arith) ∙ a.kept.holds.starts ∙ sym (group_at (only Odrm a.log) (only Odhe a.log) (only Ohdr a.log) (only Odda a.log)))
+      (accepted-contained cap s a.log a.read)
+
+  pub begun : Begun s starts (length starts)
+  begun = listed-begun (omega (arith, counted, ap (λ (t : Tally). t.containers) a.kept.holds.tally, most)) (omega arith) listed
+
+  pub answered-done : {made : List Summary} → ((cs : List Container) → Listed s starts (length starts) cs → made ≡ eight (map summary_of cs)) → length new ≡ length old
+      → Answered s cap old (record { refusal = record { rule = Done; place = 0 }; boxes = x.count; containers = x.tally.containers; summaries = made; mdri = x.tally.mdri; rights = x.tally.rights; free = x.tally.free; transaction = x.tally.transaction }) new
+  unfolding answer_of
+  answered-done {made} f m =
+      let o = a.kept.holds in
+      let g : length (containers_in a.log) ≡ length (only Odrm a.log) = length-group (only Odrm a.log) (only Odhe a.log) (only Ohdr a.log) (only Odda a.log) in
+      record {
+        answer = rw (a.read, o.number, o.tally, f (containers_in a.log) listed, g);
+        rows = λ log h k.
+            let q : log ≡ a.log = same-log (sym h ∙ a.read) in
+            let c : x.count ≤ length new = omega (arith, o.number, ap length q, k, m) in
+            let z : new ≡ rows a.log ++ drop x.count old = sym (take-append-drop x.count new) ∙ ap (λ (r : List Row). r ++ drop x.count new) (o.rows c) ∙ ap (λ (r : List Row). rows a.log ++ r) a.kept.past in
+            rw q (z ∙ rw o.number);
+      }
+    where
+      same-log : {p q : List Box} → done p ≡ done q → p ≡ q
+      same-log e = cc
+
+-- ---- with as many rows as are lent, an accepted file's rows fit
+
+pub read-over : {s : List ℕ} {cap : ℕ} {old new : List Row} {r : Reading} → Answered s cap old r new → cap ≡ min 256 (length old) → ReadOver s old r new
+read-over {s} {cap} {old} {new} {r} a e = record {
+  answer = rw (← e) a.answer;
+  rows = λ log f. let g : read_of cap s ≡ done log = rw e f in
+      let p = reported cap s log g in a.rows log g (omega (arith, ap length p.boxes-of, p.allowed.few, e));
 }
-  where
-    apart : (log : List Box) → done log ≡ fault w.number w.at → ◌≡◌ {A = ℕ} 0 1
-    apart log e = cc
-
--- ---- an accepted file
-
--- its containers are those that the marks tell
-listed : {s : List ℕ} (cap : ℕ) (w : Walk) {out marks : List ℕ} (l : List Box) → read_of cap s ≡ done l → Holds s l w.count w.tally out marks
-    → Listed s marks w.tally.containers (containers_in l)
-listed {s} cap w {out} {marks} l e o =
-    let n : w.tally.containers ≡ length (only Odrm l) = ap (λ (t : Tally). t.containers) o.tally in
-    kept-listed s marks w.tally.containers (containers_in l)
-    (length-group (only Odrm l) (only Odhe l) (only Ohdr l) (only Odda l) ∙ sym n)
-    (o.starts ∙ sym (group_at (only Odrm l) (only Odhe l) (only Ohdr l) (only Odda l)))
-    (accepted-contained cap s l e)
-
-pub begun-of : {s : List ℕ} {cap : ℕ} {w : Walk} {out marks : List ℕ} → 24 ≤ length marks → Walked s cap w out marks → w.number ≡ 0 → Begun s marks w.tally.containers
-begun-of {s} {cap} {w} {out} {marks} m u z =
-    let d = walked-done u z in
-    listed-begun (u.most z) (omega (arith, u.most z)) (listed cap w d.0 d.1 d.2)
-
--- the answer, of what is kept of the boxes
-answer-of : (s : List ℕ) (cap : ℕ) (l : List Box) (count : ℕ) (t : Tally) (out marks : List ℕ) (made : List Summary) → read_of cap s ≡ done l
-    → Holds s l count t out marks → made ≡ eight (map summary_of (containers_in l))
-    → Answered s cap (record { refusal = record { rule = Done; place = 0 }; boxes = count; containers = t.containers; summaries = made; mdri = t.mdri; rights = t.rights; free = t.free; transaction = t.transaction }) out
-unfolding answer_of
-answer-of s cap l count t out marks made e o f =
-    let g : length (containers_in l) ≡ length (only Odrm l) = length-group (only Odrm l) (only Odhe l) (only Ohdr l) (only Odda l) in
-    record {
-      answer = rw (e, o.number, o.tally, f, g);
-      rows = λ log h k.
-          let q : log ≡ l = same_log log l (sym h ∙ e) in
-          rw q (rw o.number at o.rows (rw q at k));
-    }
-  where
-    same_log : (a b : List Box) → done a ≡ done b → a ≡ b
-    same_log a b e = cc
-
-pub answered-done : {s : List ℕ} {cap : ℕ} {w : Walk} {out marks : List ℕ} {made : List Summary} → Walked s cap w out marks → w.number ≡ 0
-    → ((cs : List Container) → Listed s marks w.tally.containers cs → made ≡ eight (map summary_of cs))
-    → Answered s cap (record { refusal = record { rule = Done; place = 0 }; boxes = w.count; containers = w.tally.containers; summaries = made; mdri = w.tally.mdri; rights = w.tally.rights; free = w.tally.free; transaction = w.tally.transaction }) out
-answered-done {s} {cap} {w} {out} {marks} {made} u z f =
-    let d = walked-done u z in
-    answer-of s cap d.0 w.count w.tally out marks made d.1 d.2 (f (containers_in d.0) (listed cap w d.0 d.1 d.2))

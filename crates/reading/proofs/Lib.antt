@@ -1,3 +1,1 @@
 pub mod Answers
-pub mod Copies
-pub mod Rooms

@@ -1,21 +1,11 @@
 -- What is found in a file, by value, and what a lent slice of rows holds after it is read (document 01, Numbers given back), of every file
 -- and every slice. Assumes nothing.
-use Rattle.std.specs.Prelude.{◌≡◌, ℕ, zero, suc, ◌+◌, ◌-◌, ◌*◌, min, List, [], ◌∷◌, ◌++◌, length, take, drop, get_or, replicate}
+use Rattle.std.specs.Prelude.{◌≡◌, ℕ, ◌-◌, min, List, [], ◌++◌, length, take, drop, replicate}
 use Rattle.format.specs.declared.Row.{Row}
 use Rattle.format.specs.declared.Reading.{Reading}
 use Rattle.format.specs.Judge.{Out, fault, done, read_of}
 use Rattle.format.specs.Report.{rows, no_row, answer_of}
 use Rattle.rows.specs.declared.Found.{Found}
-
--- ---- rows of four numbers each
-
-abbrev pub row_at : List ℕ → ℕ → Row
-row_at l i = record { offset = get_or l (i * 4) 0; size = get_or l (i * 4 + 1) 0; depth = get_or l (i * 4 + 2) 0; boxtype = get_or l (i * 4 + 3) 0 }
-
--- the first n
-abbrev pub rows_from : ℕ → List ℕ → List Row
-rows_from zero l = []
-rows_from (suc n) l = row_at l 0 ∷ rows_from n (drop 4 l)
 
 -- ---- by value
 

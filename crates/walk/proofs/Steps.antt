@@ -49,13 +49,13 @@ use Rattle.walk.proofs.Numbers.{number_is, Clean, none_in}
 
 -- ---- verdicts
 
-err-same : {A B : Type 0} {x y : B} → ◌≡◌ {A = Result A B} (Err x) (Err y) → x ≡ y
+pub err-same : {A B : Type 0} {x y : B} → ◌≡◌ {A = Result A B} (Err x) (Err y) → x ≡ y
 err-same e = cc
 
-ok-same : {A B : Type 0} {x y : A} → ◌≡◌ {A = Result A B} (Ok x) (Ok y) → x ≡ y
+pub ok-same : {A B : Type 0} {x y : A} → ◌≡◌ {A = Result A B} (Ok x) (Ok y) → x ≡ y
 ok-same e = cc
 
-ok-not-err : {A B : Type 0} {x : A} {y : B} → ◌≡◌ {A = Result A B} (Ok x) (Err y) → ⊥
+pub ok-not-err : {A B : Type 0} {x : A} {y : B} → ◌≡◌ {A = Result A B} (Ok x) (Err y) → ⊥
 ok-not-err e = absurd (cc)
 
 -- an outcome is a fault of a number whose rule and place are those of a refusal

@@ -1,18 +1,19 @@
-use borrow.Author.Rules.{rules}
-use Rattle.reading.proofs.Answers.{refused-most, answered-refused, begun-of, answered-done}
+-- The verdict of the walk, as an answer. Assumes nothing.
+use Rattle.std.proofs.Common.{rules, ◌≡◌}
+use Rattle.format.specs.declared.Rule.TheVariants.{Done}
+use Rattle.reading.proofs.Answers.{answered-refused, accepted, most, begun, answered-done}
 use Rattle.reading.proofs.read_with.Goals as goal
 
-pub walk_file-w-requires : goal.walk_file-w-requires
-walk_file-w-requires c = (c.requires, search rules)
+pub returns-in-Err : goal.returns-in-Err
+returns-in-Err c = answered-refused c.walk_file.ensures c.in-Err.is (search rules)
 
-pub refused-requires : goal.refused-requires
-refused-requires c = refused-most c.walk_file-w.ensures c.if-w-ne0.true
+pub shared_ref_as_front-summaries : goal.shared_ref_as_front-summaries
+shared_ref_as_front-summaries c = most (accepted c.walk_file.ensures c.in-Ok.is)
 
-pub returns-then-w-ne0 : goal.returns-then-w-ne0
-returns-then-w-ne0 c = answered-refused c.walk_file-w.ensures c.if-w-ne0.true c.refused.ensures
+pub summaries-summaries-requires : goal.summaries-summaries-requires
+summaries-summaries-requires c = begun (accepted c.walk_file.ensures c.in-Ok.is)
 
-pub summaries-made-requires : goal.summaries-made-requires
-summaries-made-requires c = begun-of (search rules) c.walk_file-w.ensures c.if-w-ne0.false
-
-pub returns : goal.returns
-returns c = answered-done c.walk_file-w.ensures c.if-w-ne0.false c.summaries-made.ensures
+pub returns-in-Ok : goal.returns-in-Ok
+returns-in-Ok c =
+    let e : c.default-in-Ok.result ≡ record { rule = Done; place = 0 } = search rules in
+    rw e (answered-done (accepted c.walk_file.ensures c.in-Ok.is) c.summaries-summaries.ensures c.walk_file.auto.rows)
