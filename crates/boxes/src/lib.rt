@@ -25,7 +25,7 @@ const MDRI: usize = 0x6d647269;
 
 const ODTT: usize = 0x6f647474;
 
-const ODRB: usize = 0x6f647262;
+pub const ODRB: usize = 0x6f647262;
 
 const UDTA: usize = 0x75647461;
 

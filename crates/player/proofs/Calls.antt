@@ -19,7 +19,7 @@ use Rattle.format.specs.Report.{row_of, rows, answer_of}
 use Rattle.format.specs.Allowed.{types, count, Filled}
 use Rattle.format.proofs.Exact.{reported}
 use Rattle.format.proofs.Refused.{refused}
-use Rattle.rows.specs.Finding.{rows_after, ReadRows}
+use Rattle.reading.specs.Answer.{ReadOver}
 use Rattle.player.specs.Layout.{words, row_numbers, reading_numbers, answer_numbers, answer_bytes}
 use Rattle.player.specs.Wrote.{Wrote}
 use Rattle.player.specs.Call.{rows_lent, answer_after, Told}
@@ -38,7 +38,7 @@ stays (fault k p) answer f = refl
 stays (done l) answer f = absurd (f refl)
 
 pub told-refused : (answer : List ℕ) {s : List ℕ} {old lent : List Row} {r : Reading} {n : ℕ} → length old ≡ rows_lent (length answer)
-    → ReadRows s old r lent → (r.refusal.rule ≡ Done → ⊥) → n ≡ number_of r.refusal.rule → Told s answer n answer
+    → ReadOver s old r lent → (r.refusal.rule ≡ Done → ⊥) → n ≡ number_of r.refusal.rule → Told s answer n answer
 told-refused answer {s} {old} {lent} {r} m a f e =
     let g : r ≡ answer_of (read_of (rows_lent (length answer)) s) = rw (lent-rows answer old m) at a.answer in
     record {
@@ -64,9 +64,9 @@ pub record Ready (s answer : List ℕ) (r : Reading) (lent : List Row) : Type 0 
   pub counted : r.boxes ≡ length (take r.boxes lent)
   pub room : 8 * (length (reading_numbers r) + length (flat_map row_numbers (take r.boxes lent))) ≤ length answer
 
-pub ready : (answer : List ℕ) {s : List ℕ} {old lent : List Row} {r : Reading} → length old ≡ rows_lent (length answer) → ReadRows s old r lent
+pub ready : (answer : List ℕ) {s : List ℕ} {old lent : List Row} {r : Reading} → length old ≡ rows_lent (length answer) → ReadOver s old r lent
     → r.refusal.rule ≡ Done → length r.summaries ≡ 8 → Ready s answer r lent
-unfolding answer_of rows_after
+unfolding answer_of
 ready answer {s} {old} {lent} {r} m a d k = go (read_of (rows_lent (length answer)) s) refl
   where
     cap : ℕ
@@ -83,7 +83,7 @@ ready answer {s} {old} {lent} {r} m a d k = go (read_of (rows_lent (length answe
     go (done l) e =
         let g : r ≡ answer_of (done l) = h ∙ ap answer_of e in
         let b : r.boxes ≡ length l = ap (λ (x : Reading). x.boxes) g in
-        let n : lent ≡ rows l ++ drop (length l) old = rw (lent-rows answer old m, e) at a.rows in
+        let n : lent ≡ rows l ++ drop (length l) old = a.rows l (ap (λ (i : ℕ). read_of i s) (lent-rows answer old m) ∙ e) in
         let t : take r.boxes lent ≡ rows l = rw (b, n) (take_at (rows l) (drop (length l) old) (length l) (length-map l row_of)) in
         let c : r.boxes ≡ length (take r.boxes lent) = b ∙ sym (ap length t ∙ length-map l row_of) in
         let p = reported cap s l e in

@@ -121,7 +121,7 @@ pub fn dcf_read(file: &[u8], answer: &mut [u8]) -> u32
 {
     let mut rows = [Row::default(); 256];
     let lent = &mut rows[..rows_lent(answer.len())];
-    let reading = rows::read(file, lent);
+    let reading = reading::read_over(file, lent);
     let rule = reading.refusal.rule;
     if rule != Rule::Done {
         return u32::from(rule);
