@@ -7,14 +7,14 @@ use Rattle.player.proofs.Calls.{Ready, ready, told-refused, told-done}
 use Rattle.player.proofs.dcf_read.Goals as goal
 use Rattle.player.proofs.dcf_read.Goals.{Else-ne}
 
-is-ready : (c : Else-ne) → Ready c.args.file.now c.args.answer.now c.read-reading.result c.read-reading.new.rows
+is-ready : (c : Else-ne) → Ready c.args.file.now c.args.answer.now c.read_over-reading.result c.read_over-reading.new.rows
 is-ready c =
-    ready _ (length-take-le _ _ (omega (arith, c.rows_lent.ensures)) ∙ c.rows_lent.ensures) c.read-reading.ensures
-    (differs_false the_type tt _ _ (sym c.if-ne.ensures)) (omega (arith, c.read-reading.type_inv))
+    ready _ (length-take-le _ _ (omega (arith, c.rows_lent.ensures)) ∙ c.rows_lent.ensures) c.read_over-reading.ensures
+    (differs_false the_type tt _ _ (sym c.if-ne.ensures)) (omega (arith, c.read_over-reading.type_inv))
 
 pub returns-then-ne : goal.returns-then-ne
 returns-then-ne c =
-    told-refused _ (length-take-le _ _ (omega (arith, c.rows_lent.ensures)) ∙ c.rows_lent.ensures) c.read-reading.ensures
+    told-refused _ (length-take-le _ _ (omega (arith, c.rows_lent.ensures)) ∙ c.rows_lent.ensures) c.read_over-reading.ensures
     (differs_true the_type _ _ (sym c.if-ne.ensures)) c.from.ensures
 
 pub put-rows_at-requires : goal.put-rows_at-requires
