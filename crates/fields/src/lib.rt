@@ -82,8 +82,8 @@ pub fn check_ftyp(b: &[u8]) -> Result<(), Rule>
 
 // odrm and odrb, whose fields are a full box's version and flags alone: 7 where they are cut, 8 where the version is not 0.
 pub fn check_full(b: &[u8]) -> Result<(), Rule>
-    ensures by_index { (m : ℕ) (p : PlaintextLength) → result ≡ field_verdict Kind.Odrm m p b.now }
-    ensures by_index_2 { (m : ℕ) (p : PlaintextLength) → result ≡ field_verdict Kind.Odrb m p b.now }
+    ensures odrm { (m : ℕ) (p : PlaintextLength) → result ≡ field_verdict Kind.Odrm m p b.now }
+    ensures odrb { (m : ℕ) (p : PlaintextLength) → result ≡ field_verdict Kind.Odrb m p b.now }
 {
     if b.len() < 4 {
         return Err(Rule::FieldsCut);

@@ -35,14 +35,14 @@ pub enum Rule {
 }
 
 // The broken rule beside the place: the offset of the box where it broke.
-#[derive(Clone, Copy, PartialEq, Eq, Default)]
+#[derive(Clone, Copy, Default)]
 pub struct Refusal {
     pub rule: Rule,
     pub place: usize,
 }
 
 // Where a box stands: at the top of the file, or in the run of a box of this type.
-#[derive(Clone, Copy, PartialEq, Eq)]
+#[derive(Clone, Copy)]
 pub enum Place {
     Top,
     InOdrm,
@@ -52,7 +52,7 @@ pub enum Place {
 }
 
 // The rows of the table of kinds: the six types, those that count only in their place, and the others.
-#[derive(Clone, Copy, PartialEq, Eq)]
+#[derive(Clone, Copy)]
 pub enum Kind {
     Ftyp,
     Odrm,
@@ -67,7 +67,7 @@ pub enum Kind {
 }
 
 // What a run has had before a box: how many boxes, how many odrm, and whether an mdri and an odtt.
-#[derive(Clone, Copy, PartialEq, Eq, Default)]
+#[derive(Clone, Copy, Default)]
 pub struct Seen {
     pub boxes: usize,
     pub odrms: usize,
@@ -76,7 +76,7 @@ pub struct Seen {
 }
 
 // Where a run stands: its place, its depth, and the offset of the box that it is in.
-#[derive(Clone, Copy, PartialEq, Eq)]
+#[derive(Clone, Copy)]
 pub struct Spot {
     pub place: Place,
     pub depth: usize,
@@ -84,10 +84,10 @@ pub struct Spot {
 }
 
 // The two lengths of a content: with the IV, and without it.
-#[derive(Clone, Copy, PartialEq, Eq, Default)]
+#[derive(Clone, Copy, Default)]
 pub struct DataLength(pub u64);
 
-#[derive(Clone, Copy, PartialEq, Eq, Default)]
+#[derive(Clone, Copy, Default)]
 pub struct PlaintextLength(pub u64);
 
 #[derive(Clone, Copy, PartialEq, Eq, Default)]
@@ -99,20 +99,20 @@ pub struct Row {
 }
 
 // A full box's row and its flags.
-#[derive(Clone, Copy, PartialEq, Eq, Default)]
+#[derive(Clone, Copy, Default)]
 pub struct Full {
     pub row: Row,
     pub flags: usize,
 }
 
 // Bytes of the file.
-#[derive(Clone, Copy, PartialEq, Eq, Default)]
+#[derive(Clone, Copy, Default)]
 pub struct Stretch {
     pub offset: usize,
     pub length: usize,
 }
 
-#[derive(Clone, Copy, PartialEq, Eq, Default)]
+#[derive(Clone, Copy, Default)]
 pub struct Summary {
     pub odrm: Full,
     pub odhe: Full,
@@ -130,7 +130,7 @@ pub struct Summary {
 }
 
 // What reading a file answers. Where it is refused, all but the refusal is 0.
-#[derive(Clone, Copy, PartialEq, Eq, Default)]
+#[derive(Clone, Copy)]
 pub struct Reading {
     pub refusal: Refusal,
     pub boxes: usize,
@@ -142,11 +142,12 @@ pub struct Reading {
     pub transaction: usize,
 }
 
+// The paper's number of a rule: the rules stand in its order.
 impl From<Rule> for u32 {
     ghost from_gives = { λ rule n. n ≡ number_of rule };
 
     fn from(rule: Rule) -> u32 {
-        number(rule)
+        rule as u32
     }
 }
 
@@ -160,36 +161,5 @@ impl Stretch {
     {
         let Stretch { offset, length } = self;
         &file[offset..offset + length]
-    }
-}
-
-// The paper's number of a rule.
-pub fn number(rule: Rule) -> u32
-    ensures { result ≡ number_of rule }
-{
-    match rule {
-        Rule::Done => 0,
-        Rule::FileTooLong => 1,
-        Rule::NoHeader => 2,
-        Rule::BadSize => 3,
-        Rule::PastParent => 4,
-        Rule::NoRow => 5,
-        Rule::WrongPlace => 6,
-        Rule::FieldsCut => 7,
-        Rule::BadVersion => 8,
-        Rule::BadMethod => 9,
-        Rule::BadLength => 10,
-        Rule::BadHeaders => 11,
-        Rule::BadData => 12,
-        Rule::SameContentId => 13,
-        Rule::NoMdri => 14,
-        Rule::RightsLength => 15,
-        Rule::NoRoom => 16,
-        Rule::NoRights => 17,
-        Rule::NoOdtt => 18,
-        Rule::BadRoom => 19,
-        Rule::OutputTooShort => 20,
-        Rule::NoContainer => 21,
-        Rule::NoTextualHeader => 22,
     }
 }
