@@ -10,7 +10,7 @@ ghost use Rattle.boxes.specs.Head.{wrong_size, sized_head, head_in};
 
 use format::{Kind, Place, Rule, Seen};
 
-// The four letters of each name, as one number.
+// The four letters of each name, as one number: so a row reports a type, and types are open.
 const FTYP: usize = 0x66747970;
 
 const ODRM: usize = 0x6f64726d;
@@ -37,7 +37,7 @@ pub struct Head {
     pub boxtype: usize,
 }
 
-// Number 3: a size below its header's length, which sizes 0 and 2 to 7 are too, or an odda in short form.
+// Number 3: a size below its header's length, which sizes 0 and 2 to 7 are too, or an odda in short form, whose header is 8 bytes.
 fn is_wrong_size(size: usize, skip: usize, boxtype: usize) -> bool
     ensures { result ≡ wrong_size size skip boxtype }
 {

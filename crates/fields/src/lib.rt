@@ -43,7 +43,8 @@ fn is_outside(most: usize, length: usize) -> bool
     !(1..=most).contains(&length)
 }
 
-// Whether a data length agrees with a method and a plaintext length (document 01, Boxes). D is taken apart, since a sum over P could wrap.
+// Whether a data length agrees with a method and a plaintext length (document 01, Boxes). D is taken apart, since a sum over P could wrap. The
+// method is any number: `agrees` says that one of no rule agrees with nothing but no data.
 #[tactic(auto, unfolding(format::specs::Judge::agrees))]
 pub fn is_agreeing(method: usize, plaintext: PlaintextLength, length: DataLength) -> bool
     ensures { result ≡ agrees method plaintext length }

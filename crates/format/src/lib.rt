@@ -5,7 +5,8 @@ ghost use Rattle.std.specs.Prelude.{◌≡◌, ◌+◌, ◌≤◌, length};
 ghost use Rattle.format.specs.Numbers.{number_of};
 ghost use Rattle.format.specs.Report.{bytes_in};
 
-// The broken rule (document 01, Numbers given back); number_of has the paper's number of each.
+// The broken rule (document 01, Numbers given back); number_of has the paper's number of each. Done is the verdict on an accepted file: the
+// answer holds a verdict in every case, and the companion calls take it apart.
 #[derive(Clone, Copy, PartialEq, Eq, Default)]
 pub enum Rule {
     #[default]
@@ -83,7 +84,7 @@ pub struct Spot {
     pub own: usize,
 }
 
-// The two lengths of a content: with the IV, and without it.
+// The two lengths of a content: with the IV, and without it. Two types, so that neither is taken for the other.
 #[derive(Clone, Copy, Default)]
 pub struct DataLength(pub u64);
 
@@ -112,6 +113,7 @@ pub struct Stretch {
     pub length: usize,
 }
 
+// A container. Method and padding are the numbers that the file has.
 #[derive(Clone, Copy, Default)]
 pub struct Summary {
     pub odrm: Full,
@@ -129,7 +131,8 @@ pub struct Summary {
     pub content: Stretch,
 }
 
-// What reading a file answers. Where it is refused, all but the refusal is 0.
+// What reading a file answers. Where it is refused, all but the refusal is 0. mdri and transaction are offsets, or 0 for none, as the listing and
+// the answer for C have them. The first `containers` summaries count: the answer is a value of fixed size.
 #[derive(Clone, Copy)]
 pub struct Reading {
     pub refusal: Refusal,

@@ -7,7 +7,8 @@ ghost use Rattle.std.specs.Io.KnownBytes.{Consumes, IsAtEnd};
 use std::io;
 use std::io::Read;
 
-// Reads until the room is full or the input ends, and answers how many bytes were read.
+// Reads until the room is full or the input ends, and answers how many bytes were read. A reader gives as much as it likes at a time, and
+// the library's `read_exact` forgets how much that was where the input ends early.
 pub fn read_full<R: Read>(input: &mut R, room: &mut [u8]) -> io::Result<usize>
     ensures within { IfOk result (λ n. n ≤ length room.new) }
     ensures bytes { IfOk result

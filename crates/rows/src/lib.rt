@@ -7,7 +7,7 @@ ghost use Rattle.rows.specs.Finding.{find_of, over, ReadRows};
 
 use format::{Reading, Row, Rule};
 
-// What a reading finds: its answer, and a row for each box; the unused rows are 0.
+// What a reading finds: its answer, and a row for each box, by value; as many count as the answer says, and the unused ones are 0.
 #[derive(Clone, Copy)]
 pub struct Found {
     pub reading: Reading,

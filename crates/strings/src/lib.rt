@@ -6,7 +6,7 @@ ghost use Rattle.strings.specs.Same.{same};
 ghost use Rattle.strings.specs.Characters.{token, lower, same_name};
 ghost use Rattle.strings.specs.Headers.{next, textual, index, Answers};
 
-// Which part of a textual-headers entry the next byte is in.
+// Which part of a textual-headers entry the next byte is in. From Bad no byte leads on: the definition `next` has it as a part too.
 #[derive(Clone, Copy, PartialEq, Eq)]
 pub enum Part {
     Start,
@@ -77,7 +77,7 @@ pub fn is_textual(s: &[u8]) -> bool
     s.iter().fold(Part::Start, |p, x| step(p, *x)) == Part::Start
 }
 
-// The first index that holds `byte`, or the length where there is none.
+// The first index that holds `byte`, or the length where there is none, as the definition `index` says it.
 fn index_of(s: &[u8], byte: u8) -> usize
     ensures { result ≡ index byte s.now }
 {

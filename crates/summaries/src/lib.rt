@@ -29,7 +29,7 @@ struct Four {
     oddafields: usize,
 }
 
-// The fields of an ohdr after its version and flags.
+// The fields of an ohdr after its version and flags, as a summary reports them.
 #[derive(Drop)]
 struct CommonHeaders {
     method: usize,

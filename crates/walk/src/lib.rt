@@ -18,7 +18,8 @@ const FREE: usize = 0x66726565;
 
 const SKIP: usize = 0x736b6970;
 
-// What is counted on the way: the odrm and the ohdr boxes, the last ohdr's method and plaintext length, and what the answer reports.
+// What is counted on the way: the odrm and the ohdr boxes, the last ohdr's method and plaintext length, and what the answer reports, in the
+// answer's numbers.
 #[derive(Clone, Copy, Default)]
 pub struct Tally {
     pub containers: usize,
@@ -145,7 +146,7 @@ fn judge(scope: Scope<'_>, kept: &Kept, n: Seen, kind: Kind, b: &[u8]) -> Result
     Ok(())
 }
 
-// Every box of a run, from an offset on. A missing box has its parent's place.
+// Every box of a run, from an offset on: each says where the next one starts. A missing box has its parent's place.
 #[cycle(one_run)]
 fn run(scope: Scope<'_>, from: usize, rows: &mut [Row], kept: &mut Kept) -> Result<(), Refusal>
     requires { Ready scope.file.now scope.cap scope.end scope.spot nothing from kept.old }
