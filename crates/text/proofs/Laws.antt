@@ -10,7 +10,7 @@ use lib.ListN.{length, take}
 use lib.Dec.{ltb, lit<}
 use borrow.Author.Tests.{lt-ltb, le-ltb, ltb-true, ltb-false}
 use Rattle.std.specs.Fmt as std
-use Rattle.std.specs.Prelude.{cond, nat_lt, slice_index_or}
+use Rattle.std.specs.Prelude.{cond, nat_lt, slice_index_or, Option}
 use Rattle.format.specs.Report.{no_row}
 use Rattle.std.specs.Str.{IsUtf8, IsAscii}
 use Rattle.std.proofs.lemmas.Fmt.{AppendsLastDigit, decimal_from_appends, length-decimal-le}
@@ -90,5 +90,5 @@ lines_more rows i h = rw add-one (one-more rows i h)
 -- ---- the whole
 
 -- one answer for one input
-pub laid-once : {s o p q : List ℕ} {b c : ℕ} → Laid s o p b → Laid s o q c → (p ≡ q) × (b ≡ c)
+pub laid-once : {s o p q : List ℕ} {b c : Option ℕ} → Laid s o p b → Laid s o q c → (p ≡ q) × (b ≡ c)
 laid-once h k = (h.bytes ∙ sym k.bytes, h.size ∙ sym k.size)

@@ -1,9 +1,9 @@
 // The listing of a reading, as text, piece by piece.
 #![tactic(auto)]
 
-ghost use Rattle.std.specs.Prelude.{◌+◌, ◌*◌, length};
+ghost use Rattle.std.specs.Prelude.{◌+◌, ◌*◌, ◌≤◌, length, IsSome};
 ghost use Rattle.text.specs.Adds.{HasRoom, Adds};
-ghost use Rattle.text.specs.Laid.{Laid};
+ghost use Rattle.text.specs.Laid.{Laid, Fits};
 ghost use Rattle.text.specs.Number.{hex8, field, entry};
 ghost use Rattle.text.specs.Text.{totals, row_line, row_lines, refused_text, listing_of, unread_text, shown};
 
@@ -12,8 +12,11 @@ use format::{Reading, Refusal, Row, Rule};
 use itoa::Buffer;
 use std::str;
 
-// A text with room for the longest listing (HasRoom).
-type Text = ArrayString<19627>;
+// The bytes of the longest listing: six lines of 171 bytes in all, then 256 rows of 76.
+pub const LONGEST: usize = 19627;
+
+// A text with room for the longest listing.
+type Text = ArrayString<LONGEST>;
 
 // Writes a word and a number.
 fn put_field(text: &mut Text, word: &str, n: usize)
@@ -106,32 +109,32 @@ fn render(text: &mut Text, reading: Reading, rows: &[Row])
 
 // Lays a whole text into a buffer, if it fits, and answers its length.
 #[tactic(auto, unfolding(crate::specs::Laid::laid, crate::specs::Laid::laid_length))]
-fn lay(out: &mut [u8], s: &str) -> usize
-    ensures { Laid s.now out.old out.new result }
+fn lay(out: &mut [u8], s: &str) -> Option<usize>
+    ensures laid { Laid s.now out.old out.new result }
+    ensures fits { length s.now ≤ length out.old → IsSome result }
 {
-    let n = s.len();
-    if out.len() < n {
-        return 0;
-    }
-    out[..n].copy_from_slice(s.as_bytes());
-    n
+    let (part, _) = out.split_at_mut_checked(s.len())?;
+    part.copy_from_slice(s.as_bytes());
+    Some(s.len())
 }
 
-// Writes the listing and answers its length; where it does not fit, writes nothing and answers 0.
+// Writes the listing and answers its length; where it does not fit, writes nothing and answers None.
 #[tactic(auto, unfolding(crate::specs::Text::shown))]
-pub fn put_listing(out: &mut [u8], reading: Reading, rows: &[Row]) -> usize
-    ensures { Laid (listing_of reading (shown reading rows.now)) out.old out.new result }
+pub fn put_listing(out: &mut [u8], reading: Reading, rows: &[Row]) -> Option<usize>
+    ensures laid { Laid (listing_of reading (shown reading rows.now)) out.old out.new result }
+    ensures fits { Fits out.old result }
 {
     let n = reading.boxes.min(256).min(rows.len());
     let mut text = Text::new();
     render(&mut text, reading, &rows[..n]);
-    lay(out, text.as_str())
+    lay(out, &text)
 }
 
-// Writes the line of an unread file and answers its length; where it does not fit, writes nothing and answers 0.
+// Writes the line of an unread file and answers its length; where it does not fit, writes nothing and answers None.
 #[tactic(auto, unfolding(crate::specs::Text::unread_text))]
-pub fn put_unread(out: &mut [u8]) -> usize
-    ensures { Laid unread_text out.old out.new result }
+pub fn put_unread(out: &mut [u8]) -> Option<usize>
+    ensures laid { Laid unread_text out.old out.new result }
+    ensures fits { Fits out.old result }
 {
     lay(out, "unread\n")
 }

@@ -3,5 +3,5 @@ use borrow.Author.Rules.{rules}
 use Rattle.listing.proofs.Laws.{file-text}
 use Rattle.listing.proofs.list.Goals as goal
 
-pub returns : goal.returns
-returns c = rw (file-text c.read-reading.ensures (search rules)) at c.put_listing.ensures
+pub returns-clause-laid : goal.returns-clause-laid
+returns-clause-laid c = rw (file-text c.read-reading.ensures (search rules)) at c.put_listing.ensures.laid
