@@ -14,9 +14,6 @@ ghost use Rattle.stretches.specs.Rights.{rights_in, odrb_at, rights_data_refusal
 
 use format::{Reading, Rule, Stretch, Summary};
 
-// The four letters of an odrb, as one number.
-const ODRB: usize = 0x6f647262;
-
 // The reading of a file, or the rule that refuses it.
 #[tactic(auto, using(crate::proofs::Readings::stopped, crate::proofs::Readings::went_on))]
 fn accepted(file: &[u8]) -> Result<Reading, Rule>
@@ -106,12 +103,11 @@ fn rights_at(file: &[u8], mdri: usize, index: usize) -> Stretch
     ensures value { result ≡ rights_in (odrb_at (log_of (read_of 256 file.now)) index) }
     ensures inside { Inside file.now result }
 {
-    let end = file.len();
-    let mut at = mdri + boxes::read_head(file, mdri, end).skip;
+    let mut at = mdri + boxes::read_head(&file[mdri..]).unwrap().skip;
     let mut left = index;
     loop {
-        let head = boxes::read_head(file, at, end);
-        if head.boxtype == ODRB {
+        let head = boxes::read_head(&file[at..]).unwrap();
+        if head.boxtype == boxes::ODRB {
             if left == 0 {
                 // The data stands behind the version and the flags.
                 let start = head.skip + 4;

@@ -1,36 +1,26 @@
 use native.Mathlib.Omega.{arith}
-use Rattle.stretches.proofs.Seeking.{mdri_inside, mdri_ends, seek_inside, next_fits, odrb_fits, is_sought}
+use Rattle.stretches.proofs.Seeking.{mdri_inside, mdri_read, seek_read, odrb_fits, is_sought}
 use Rattle.stretches.proofs.rights_at.Goals as goal
 
-pub read_head-requires : goal.read_head-requires
-read_head-requires c = (mdri_inside c.requires, omega arith)
+pub slice_bounds-read_head-count : goal.slice_bounds-read_head-count
+slice_bounds-read_head-count c = search mdri_inside
 
-pub overflow_add-at : goal.overflow_add-at
-overflow_add-at c = omega (arith, mdri_ends c.requires c.read_head.ensures)
+pub slice_bounds-read_head-start : goal.slice_bounds-read_head-start
+slice_bounds-read_head-start c = search mdri_inside
 
-pub read_head-head-requires : goal.read_head-head-requires
-read_head-head-requires c = (seek_inside c.loop-start.invariant, omega arith)
+pub unwrap-requires : goal.unwrap-requires
+unwrap-requires c = search mdri_read
 
-pub overflow_add-start : goal.overflow_add-start
-overflow_add-start c =
-    let k = c.loop-start.invariant in let r = c.read_head-head.ensures in omega (arith, next_fits k r, odrb_fits k r c.if-head-eq-ODRB.true)
-
-pub overflow_add-result : goal.overflow_add-result
-overflow_add-result c =
-    let k = c.loop-start.invariant in let r = c.read_head-head.ensures in omega (arith, next_fits k r, odrb_fits k r c.if-head-eq-ODRB.true)
+pub unwrap-head-requires : goal.unwrap-head-requires
+unwrap-head-requires c = search seek_read
 
 pub overflow_sub-result : goal.overflow_sub-result
-overflow_sub-result c = odrb_fits c.loop-start.invariant c.read_head-head.ensures c.if-head-eq-ODRB.true
+overflow_sub-result c =
+    omega (arith, odrb_fits c.loop-start.invariant c.read_head-in-loop-start.ensures.gives c.unwrap-head.ensures c.if-head-eq-ODRB.true)
 
 pub returns-then-left-eq0-clause-value : goal.returns-then-left-eq0-clause-value
-returns-then-left-eq0-clause-value c = is_sought c.loop-start.invariant c.read_head-head.ensures c.if-head-eq-ODRB.true c.if-left-eq0.true
+returns-then-left-eq0-clause-value c = search is_sought
 
 pub returns-then-left-eq0-clause-inside : goal.returns-then-left-eq0-clause-inside
 returns-then-left-eq0-clause-inside c =
-    let k = c.loop-start.invariant in let r = c.read_head-head.ensures in omega (arith, next_fits k r, odrb_fits k r c.if-head-eq-ODRB.true)
-
-pub overflow_add-at-in-loop-start : goal.overflow_add-at-in-loop-start
-overflow_add-at-in-loop-start c = omega (arith, next_fits c.loop-start.invariant c.read_head-head.ensures)
-
-pub loop-start-smaller : goal.loop-start-smaller
-loop-start-smaller c = omega (arith, next_fits c.loop-start.invariant c.read_head-head.ensures)
+    omega (arith, odrb_fits c.loop-start.invariant c.read_head-in-loop-start.ensures.gives c.unwrap-head.ensures c.if-head-eq-ODRB.true)
