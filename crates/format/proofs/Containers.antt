@@ -1,15 +1,15 @@
 -- The odrm, odhe, ohdr and odda of the boxes read are those of the tree's containers, one of each to a container. Assumes nothing.
 use mathlib.Core.Path.{◌≡◌, refl, sym, ap, ◌∙◌, subst}
 use mathlib.Core.Logic.{inl, inr, ◌↔◌}
-use Prim.Native.Nat.{ℕ, ◌+◌, ◌≤◌}
+use Prim.Native.Nat.{ℕ, ◌+◌}
 use native.Mathlib.Omega.{arith}
 use mathlib.Core.Bool.{Bool, true, false}
 use mathlib.Core.List.{List, [], ◌∷◌, ◌++◌, map}
 use lib.ListN.{length}
 use lib.Seq.{take-length}
 use lib.Dec.{leb, eqb}
-use borrow.Author.Tests.{le-leb, ne_eqb, eqb-true, eqb-false}
-use Rattle.numbers.specs.Choice.{pick, both, pick-by, true-not-false}
+use borrow.Author.Tests.{ne_eqb, eqb-true, eqb-false}
+use Rattle.numbers.specs.Choice.{pick, both, pick-by}
 use Rattle.strings.specs.Headers.{Each}
 use Rattle.format.specs.declared.Place.{Place}
 use Rattle.format.specs.declared.Place.TheVariants.{Top, InOdrm, InOdhe, InOhdr, InMdri}
@@ -18,17 +18,15 @@ use Rattle.format.specs.declared.Kind.TheVariants.{Ftyp, Odrm, Odhe, Ohdr, Odda,
 use Rattle.format.specs.declared.Spot.{Spot}
 use Rattle.format.specs.Kinds.{FTYP, ODRM, ODHE, OHDR, ODDA, MDRI, ODTT, ODRB, UDTA, other_in, kind_of, fields_length, holds_run, inside, kind_number, same_kind}
 use Rattle.format.specs.Header.{type_of}
-use Rattle.format.specs.Tree.{Run, end, bad, leaf, node, encode, kind_at, opens, Good}
+use Rattle.format.specs.Tree.{Run, end, bad, leaf, node, encode, kind_at, Good}
 use Rattle.format.specs.Fields.{method, plaintext, data_length}
 use Rattle.format.specs.Boxes.{Box, top, kind, box_of, into, boxes, only, Container, first_of, start, container_of, containers}
 use Rattle.format.specs.Allowed.{types, count, IsOther, OdrmRun, OdheRun, Ordered, Filled, Fielded}
 use Rattle.format.specs.Judge.{agrees}
 use Rattle.format.specs.Report.{group, containers_in}
-use Rattle.format.proofs.Headers.{fields-take}
 use Rattle.format.proofs.Passing.{Agreed}
-
-clash : {A : Type 0} {b : Bool} → b ≡ false → b ≡ true → A
-clash f t = absurd (true-not-false (sym f ∙ t))
+use Rattle.format.proofs.Saying.{clash}
+use Rattle.format.proofs.Tiling.{each_left, each_right, leaf-holds}
 
 -- ---- the boxes of the four kinds: what is asked of the boxes is asked of these alone
 
@@ -152,26 +150,6 @@ others-none q at (leaf h b r) o g =
     rw (plain_other q.place (type_of h) o.0).0 (others-none q (at + (length h + length b)) r o.1 g.2)
 others-none q at (node h f k r) o g = clash (plain_other q.place (type_of h) o.0).1 g.1.0
 
--- a box that holds no run though its fields fit is of a kind that holds none
-leaf-shut : (q : Spot) (at : ℕ) (h b : List ℕ) → opens (kind_at q.place h) b ≡ false → Fielded (box_of q at h (length b) b)
-    → holds_run (kind_at q.place h) ≡ false
-unfolding opens
-leaf-shut q at h b e f =
-    let k : Kind = kind_at q.place h in
-    let l : fields_length k b ≤ length b = omega (arith, fields-take k b, f.fit) in
-    go (holds_run k) (rw (le-leb (fields_length k b) (length b) l) at e)
-  where
-    go : (t : Bool) → both t true ≡ false → t ≡ false
-    go true z = z
-    go false z = refl
-
-no-box : (t : ℕ) (ts : List ℕ) → [] ≡ t ∷ ts → ⊥
-no-box t ts e = let z : ◌≡◌ {A = ℕ} 0 1 = cc in omega arith
-
-each-split : (xs ys : List Box) → Each Fielded (xs ++ ys) → Each Fielded xs × Each Fielded ys
-each-split [] ys a = (tt, a)
-each-split (x ∷ xs) ys a = let i = each-split xs ys a.1 in ((a.0, i.0), i.1)
-
 -- a box of the four kinds, the boxes in it and the boxes after it
 kept : (k : Kind) (x : Box) (xs ys : List Box) {us vs : List Box} → is_four k ≡ true → kind x ≡ k → four xs ≡ us → four ys ≡ vs
     → four (x ∷ (xs ++ ys)) ≡ x ∷ (us ++ vs)
@@ -184,8 +162,8 @@ record First (k : Kind) (q : Spot) (at : ℕ) (t : Run) : Type 0 where
 
 odda-run : (q : Spot) (at : ℕ) (t : Run) (ts : List ℕ) → types t ≡ ODDA ∷ ts → Each IsOther ts → Good q.place t → First Odda q at t
 unfolding is_four kind_number holds_run
-odda-run q at end ts e o g = absurd (no-box ODDA ts e)
-odda-run q at (bad k s) ts e o g = absurd (no-box ODDA ts e)
+odda-run q at end ts e o g = absurd (cc)
+odda-run q at (bad k s) ts e o g = absurd (cc)
 odda-run q at (leaf h b r) ts e o g =
     let x : Box = box_of q at h (length b) b in
     let a : type_of h ≡ ODDA = cc in
@@ -202,11 +180,11 @@ odda-run q at (node h f k r) ts e o g =
 ohdr-run : (q : Spot) (at : ℕ) (t : Run) (ts : List ℕ) → types t ≡ OHDR ∷ ts → Each IsOther ts → Good q.place t → Filled q.place t
     → Each Fielded (boxes q at t) → First Ohdr q at t
 unfolding is_four kind_number holds_run inside
-ohdr-run q at end ts e o g w d = absurd (no-box OHDR ts e)
+ohdr-run q at end ts e o g w d = absurd (cc)
 ohdr-run q at (bad k s) ts e o g w d = absurd w
 ohdr-run q at (leaf h b r) ts e o g w d =
     let a : type_of h ≡ OHDR = cc in
-    clash (leaf-shut q at h b g.1 d.0) (ap holds_run ((named q.place (type_of h)).ohdr a))
+    clash (leaf-holds q at h b g.1 d.0) (ap holds_run ((named q.place (type_of h)).ohdr a))
 ohdr-run q at (node h f i r) ts e o g w d =
     let n : ℕ = length f + length (encode i) in
     let x : Box = box_of q at h n f in
@@ -238,13 +216,13 @@ record Three (x : Box) (t : Run) : Type 0 where
 odrm-run : (x : Box) (t : Run) → kind x ≡ Odrm → OdrmRun (types t) → Good (inside (kind x)) t → Filled (inside (kind x)) t
     → Each Fielded (boxes (into top x) (start x) t) → Three x t
 unfolding is_four kind_number holds_run inside
-odrm-run x end kx o g w d = absurd (no-box ODHE _ o.starts)
+odrm-run x end kx o g w d = absurd (cc)
 odrm-run x (bad k s) kx o g w d = absurd w
 odrm-run x (leaf h b r) kx o g w d =
     let e : type_of h ∷ types r ≡ ODHE ∷ (ODDA ∷ o.rest) = o.starts in
     let a : type_of h ≡ ODHE = cc in
     let q : Spot = into top x in
-    clash (leaf-shut q (start x) h b g.1 d.0) (ap holds_run ((named q.place (type_of h)).odhe a))
+    clash (leaf-holds q (start x) h b g.1 d.0) (ap holds_run ((named q.place (type_of h)).odhe a))
 odrm-run x (node h f i r) kx o g w d =
     let q : Spot = into top x in
     let n : ℕ = length f + length (encode i) in
@@ -255,8 +233,8 @@ odrm-run x (node h f i r) kx o g w d =
     let l : types r ≡ ODDA ∷ o.rest = cc in
     let k : kind y ≡ Odhe = (named q.place (type_of h)).odhe a in
     let u = odhe-rest (types i) (subst (λ (j : Kind). Ordered (inside j) (types i)) k w.0) in
-    let z = each-split (boxes (into q y) p i) (boxes q (start x + (length h + n)) r) d.1 in
-    let oh = ohdr-run (into q y) p i u.0 u.1 u.2 g.2 w.1 z.0 in
+    let z : Each Fielded (boxes (into q y) p i) = each_left Fielded _ (boxes q (start x + (length h + n)) r) d.1 in
+    let oh = ohdr-run (into q y) p i u.0 u.1 u.2 g.2 w.1 z in
     let od = odda-run q (start x + (length h + n)) r o.rest l o.others g.3 in
     let here : start y ≡ p = starts q (start x) h n f g.1.1 in
     let same : first_of (into q y) p i ≡ first_of (into q y) (start y) i = ap (λ (j : ℕ). first_of (into q y) j i) (sym here) in
@@ -319,7 +297,7 @@ held-node at h f k r s i true e =
     let kx : kind x ≡ Odrm = (named Top (type_of h)).odrm (eqb-true (type_of h) ODRM e) in
     let here : start x ≡ p = starts top at h n f s.good.1.1 in
     let o : OdrmRun (types k) = subst (λ (j : Kind). Ordered (inside j) (types k)) kx s.filled.0 in
-    let d = (each-split (boxes (into top x) p k) (boxes top (at + (length h + n)) r) s.fielded.1).0 in
+    let d = each_left Fielded (boxes (into top x) p k) (boxes top (at + (length h + n)) r) s.fielded.1 in
     let c = odrm-run x k kx o s.good.2 s.filled.1 (subst (λ (j : ℕ). Each Fielded (boxes (into top x) j k)) (sym here) d) in
     let three = ap (λ (j : ℕ). four (boxes (into top x) j k)) (sym here) ∙ c.three in
     record {
@@ -342,14 +320,14 @@ unfolding holds_run
 held at end s = record { all = refl; kinded = tt }
 held at (bad k b) s = record { all = refl; kinded = tt }
 held at (leaf h b r) s =
-    let shut : holds_run (kind_at Top h) ≡ false = leaf-shut top at h b s.good.1 s.fielded.0 in
+    let shut : holds_run (kind_at Top h) ≡ false = leaf-holds top at h b s.good.1 s.fielded.0 in
     let n : type_of h ≡ ODRM → ⊥ = λ e. clash shut (ap holds_run ((named Top (type_of h)).odrm e)) in
     let i = held (at + (length h + length b)) r (record { good = s.good.2; filled = s.filled; others = s.others.1; fielded = s.fielded.1 }) in
     record { all = rw (outside (type_of h) [] s.others.0 n).0 i.all; kinded = i.kinded }
 held at (node h f k r) s =
     let n : ℕ = length f + length (encode k) in
     let in-k : List Box = boxes (into top (box_of top at h n f)) (at + (length h + length f)) k in
-    let d = (each-split in-k (boxes top (at + (length h + n)) r) s.fielded.1).1 in
+    let d = each_right Fielded in-k (boxes top (at + (length h + n)) r) s.fielded.1 in
     let i = held (at + (length h + n)) r (record { good = s.good.3; filled = s.filled.2; others = s.others.1; fielded = d }) in
     held-node at h f k r s i (eqb (type_of h) ODRM) refl
 

@@ -4,7 +4,7 @@ use mathlib.Core.Path.{◌≡◌, refl, sym, ap, ◌∙◌}
 use Prim.Native.Nat.{ℕ, ◌≤◌}
 use native.Mathlib.Omega.{arith}
 use mathlib.Core.Bool.{Bool, true, false}
-use mathlib.Core.List.{List, [], ◌∷◌, map}
+use mathlib.Core.List.{List, [], map, map-map}
 use lib.ListN.{length}
 use lib.Dec.{ltb}
 use borrow.Author.Tests.{ltb-false, le-ltb}
@@ -15,10 +15,10 @@ use Rattle.format.specs.declared.Place.TheVariants.{Top}
 use Rattle.format.specs.Kinds.{inside}
 use Rattle.format.specs.Tree.{Run, end, bad, leaf, node, encode, kind_at, Good, parse}
 use Rattle.format.specs.Fields.{content_id}
-use Rattle.format.specs.Boxes.{Box, no_box, top, boxes, Container, containers}
+use Rattle.format.specs.Boxes.{Box, no_box, top, boxes, containers}
 use Rattle.format.specs.Allowed.{types, Filled, Agreeing, id_of, Allowed}
 use Rattle.format.specs.Judge.{nothing, Out, fault, done, judge, ids, read_of}
-use Rattle.format.specs.Report.{containers_in}
+use Rattle.format.specs.Report.{containers_in, answer_of}
 use Rattle.format.specs.Tiling.{Tiled}
 use Rattle.format.specs.Standing.{Stands, HeaderStands}
 use Rattle.format.proofs.Trees.{parse-encode, parse-whole}
@@ -48,12 +48,8 @@ filled-nested c (node h f k r) n = (ordered-scanned _ (types k) n.0, filled-nest
 
 -- ---- ContentIDs, of the boxes and of the containers
 
-ids-map : (cs : List Container) → map (λ (x : Box). content_id x.fields) (map (λ c. c.ohdr) cs) ≡ map id_of cs
-ids-map [] = refl
-ids-map (c ∷ cs) = ap (λ (l : List (List ℕ)). id_of c ∷ l) (ids-map cs)
-
 ids-containers : (t : Run) → Sound 0 t → ids (boxes top 0 t) ≡ map id_of (containers 0 t)
-ids-containers t s = ap (map (λ (x : Box). content_id x.fields)) (only-ohdr s) ∙ ids-map (containers 0 t)
+ids-containers t s = ap (map (λ (x : Box). content_id x.fields)) (only-ohdr s) ∙ map-map (λ (x : Box). content_id x.fields) (λ c. c.ohdr) (containers 0 t)
 
 -- ---- accepted, and allowed
 
@@ -67,7 +63,7 @@ read_done cap s l = go (ltb 16777216 (length s)) refl
     o = judge cap top nothing 0 [] (parse (length s) Top s)
 
     go : (t : Bool) → ltb 16777216 (length s) ≡ t → pick t (fault 1 0) o ≡ done l → (length s ≤ 16777216) × (o ≡ done l)
-    go true h e = let z : ◌≡◌ {A = ℕ} 0 1 = cc in absurd (omega arith)
+    go true h e = absurd (cc)
     go false h e = (ltb-false 16777216 (length s) h, e)
 
 pub read-encode : (cap : ℕ) (t : Run) → Good Top t → length (encode t) ≤ 16777216 → read_of cap (encode t) ≡ judge cap top nothing 0 [] t
@@ -148,3 +144,15 @@ reports cap s l t b a e = record {
 
 pub reported : (cap : ℕ) (s : List ℕ) (l : List Box) → read_of cap s ≡ done l → Reported cap s l
 reported cap s l e = let a = accepted cap s l e in reports cap s l a.0 a.1 a.2 a.3
+
+-- as many boxes as rows at most
+pub few : (cap : ℕ) (s : List ℕ) (l : List Box) → read_of cap s ≡ done l → length l ≤ cap
+few cap s l e = let p = reported cap s l e in rw p.boxes-of p.allowed.few
+
+pub boxes-few : (cap : ℕ) (s : List ℕ) → (answer_of (read_of cap s)).boxes ≤ cap
+unfolding answer_of
+boxes-few cap s = go (read_of cap s) refl
+  where
+    go : (o : Out) → read_of cap s ≡ o → (answer_of o).boxes ≤ cap
+    go (fault k p) e = omega arith
+    go (done l) e = few cap s l e

@@ -7,6 +7,8 @@ use mathlib.Core.List.{List, [], ◌∷◌, ◌++◌, append_assoc, append-nil, 
 use lib.ListN.{length, get_or, length-append, get_or-append}
 use lib.Dec.{ltb}
 use borrow.Author.Tests.{leb-false, lt-leb, ltb-false, le-ltb, not-false}
+use Rattle.std.proofs.lemmas.Bool.{false_from_ne_true}
+use Rattle.std.proofs.lemmas.List.{map-append}
 use Rattle.numbers.specs.Choice.{pick, both, either-false}
 use Rattle.strings.specs.Same.{same}
 use Rattle.strings.specs.Headers.{Each}
@@ -33,7 +35,7 @@ only-append k (x ∷ xs) ys = go (same_kind (kind x) k) (only-append k xs ys)
     go true e = ap (λ (l : List Box). x ∷ l) e
     go false e = e
 
-last-append : (d : Box) (xs ys : List Box) → last_of d (xs ++ ys) ≡ last_of (last_of d xs) ys
+pub last-append : (d : Box) (xs ys : List Box) → last_of d (xs ++ ys) ≡ last_of (last_of d xs) ys
 last-append d [] ys = refl
 last-append d (x ∷ xs) ys = last-append x xs ys
 
@@ -49,12 +51,8 @@ last_snoc log x =
 abbrev id_bytes : Box → List ℕ
 id_bytes x = content_id x.fields
 
-map-append : (xs ys : List Box) → map id_bytes (xs ++ ys) ≡ map id_bytes xs ++ map id_bytes ys
-map-append [] ys = refl
-map-append (x ∷ xs) ys = ap (λ (l : List (List ℕ)). id_bytes x ∷ l) (map-append xs ys)
-
 pub ids-snoc : (log : List Box) (x : Box) → ids (log ++ (x ∷ [])) ≡ ids log ++ pick (same_kind (kind x) Ohdr) (id_bytes x ∷ []) []
-ids-snoc log x = ap (map id_bytes) (only-append Ohdr log (x ∷ [])) ∙ map-append (only Ohdr log) (only Ohdr (x ∷ [])) ∙ go (same_kind (kind x) Ohdr)
+ids-snoc log x = ap (map id_bytes) (only-append Ohdr log (x ∷ [])) ∙ map-append id_bytes (only Ohdr log) (only Ohdr (x ∷ [])) ∙ go (same_kind (kind x) Ohdr)
   where
     go : (t : Bool) → ids log ++ map id_bytes (pick t (x ∷ []) []) ≡ ids log ++ pick t (id_bytes x ∷ []) []
     go true = refl
@@ -71,17 +69,10 @@ not-among y [] e i l g = absurd (omega arith)
 not-among y (x ∷ xs) e zero l g = same_false y x (either-false (same y x) _ e).0 (sym g)
 not-among y (x ∷ xs) e (suc i) l g = not-among y xs (either-false (same y x) _ e).1 i (omega arith) g
 
-different : (y x : List ℕ) → (x ≡ y → ⊥) → same y x ≡ false
-different y x f = go (same y x) refl
-  where
-    go : (t : Bool) → same y x ≡ t → same y x ≡ false
-    go true e = absurd (f (sym (same_true y x e)))
-    go false e = e
-
 among-not : (y : List ℕ) (xs : List (List ℕ)) → ((i : ℕ) → i < length xs → get_or xs i [] ≡ y → ⊥) → among y xs ≡ false
 among-not y [] f = refl
 among-not y (x ∷ xs) f =
-    false-either _ _ (different y x (f 0 (omega arith))) (among-not y xs (λ i l. f (suc i) (omega arith)))
+    false-either _ _ (false_from_ne_true _ (λ e. f 0 (omega arith) (sym (same_true y x e)))) (among-not y xs (λ i l. f (suc i) (omega arith)))
 
 fresh-apart : (seen ys : List (List ℕ)) → Fresh seen ys → (i j : ℕ) → i < length seen + j → j < length ys → get_or (seen ++ ys) i [] ≡ get_or ys j [] → ⊥
 fresh-apart seen [] f i j l m g = absurd (omega arith)

@@ -8,6 +8,7 @@ use mathlib.Core.List.{List, [], ◌∷◌}
 use lib.ListN.{get_or}
 use lib.Dec.{leb, eqb}
 use borrow.Author.Tests.{ltb-false, leb-false, lt-leb, le-ltb, eqb-true, eqb-false, eq-eqb, ne_eqb, not-false}
+use Rattle.std.specs.Cmp.{both_ways}
 use Rattle.numbers.specs.Choice.{pick, both, either, pick-by, pick-zero, either-false, true-not-false}
 use Rattle.strings.specs.Headers.{Each}
 use Rattle.format.specs.declared.Place.{Place}
@@ -77,17 +78,10 @@ is-named {c} {x} {j} a h t e =
     let q : kind_number (kind_of c t) ≡ kind_number j = eqb-true _ _ e in
     (by_name (named c t) (omega arith)).0 ∙ (ap (λ (n : ℕ). get_or names n 0) q ∙ sym (by_name a h).0)
 
--- the same as one equation of tests
-truth : (a b : Bool) → (a ≡ true → b ≡ true) → (b ≡ true → a ≡ true) → a ≡ b
-truth true true f g = refl
-truth true false f g = sym (f refl)
-truth false true f g = g refl
-truth false false f g = refl
-
 pub same-named : {c : Place} {x : ℕ} {j : Kind} → Named c x j → kind_number j < 9 → (t : ℕ) → same_kind (kind_of c t) j ≡ eqb t x
 unfolding same_kind
 same-named {c} {x} {j} a h t =
-    truth _ _ (λ e. eq-eqb t x (is-named a h t e)) (λ e. rw (eqb-true t x e, (by_name a h).1) (eq-eqb (kind_number j) (kind_number j) refl))
+    both_ways _ _ (λ e. eq-eqb t x (is-named a h t e)) (λ e. rw (eqb-true t x e, (by_name a h).1) (eq-eqb (kind_number j) (kind_number j) refl))
 
 -- ---- kinds told apart by their numbers
 

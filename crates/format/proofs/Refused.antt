@@ -1,14 +1,15 @@
 -- A refused file has one number, from 1 to 13, and one place, and 0 for all else that is reported. Assumes nothing.
 use mathlib.Core.Path.{◌≡◌, refl}
-use Prim.Native.Nat.{ℕ, zero, suc, ◌+◌, ◌≤◌}
+use Prim.Native.Nat.{ℕ, ◌+◌, ◌≤◌}
+use native.Mathlib.Nat.{pos_of_ne-zero}
 use native.Mathlib.Omega.{arith}
 use mathlib.Core.Bool.{Bool, true, false}
 use mathlib.Core.List.{List, [], ◌∷◌, ◌++◌}
 use lib.ListN.{length}
 use lib.Dec.{ltb, eqb}
 use borrow.Author.Tests.{eqb-true, eqb-false}
+use Rattle.std.proofs.lemmas.Bool.{agree_below_at}
 use Rattle.numbers.specs.Choice.{pick}
-use Rattle.strings.proofs.Ranges.{within}
 use Rattle.format.specs.declared.Place.{Place}
 use Rattle.format.specs.declared.Place.TheVariants.{Top}
 use Rattle.format.specs.declared.Seen.{Seen}
@@ -45,10 +46,6 @@ wrong-most rows n log x =
     (most (wrong_data (kind x) (room x) (method (last_ohdr log)) (plaintext (last_ohdr log)) x.fields) 12 _ (omega arith)
     (most (again (kind x) (ids log) x.fields) 13 0 (omega arith) (omega arith)))))))))
 
-some : (n : ℕ) → (n ≡ 0 → ⊥) → 1 ≤ n
-some zero f = absurd (f refl)
-some (suc n) f = omega arith
-
 abbrev Ranged : ℕ → Type 0
 Ranged k = (1 ≤ k) × (k ≤ 13)
 
@@ -57,7 +54,7 @@ unless-fault w place k p o l e f = go (eqb w 0) refl e
   where
     go : (t : Bool) → eqb w 0 ≡ t → pick t o (fault w place) ≡ fault k p → Ranged k
     go true h e = f e
-    go false h e = let z : w ≡ k = cc in (omega (arith, some w (eqb-false w 0 h)), omega arith)
+    go false h e = let z : w ≡ k = cc in (omega (arith, pos_of_ne-zero (eqb-false w 0 h)), omega arith)
 
 then-fault : (o : Out) (f : List Box → Out) (k p : ℕ) → (o ≡ fault k p → Ranged k) → ((l : List Box) → f l ≡ fault k p → Ranged k)
     → and_then o f ≡ fault k p → Ranged k
@@ -71,10 +68,10 @@ judge-fault rows c q n at log end k p g e = go (missing q.place n) e
   where
     go : (t : Bool) → pick t (fault 6 q.own) (done log) ≡ fault k p → Ranged k
     go true e = let z : 6 ≡ k = cc in (omega arith, omega arith)
-    go false e = let z : ◌≡◌ {A = ℕ} 0 1 = cc in absurd (omega arith)
+    go false e = absurd (cc)
 judge-fault rows c q n at log (bad j s) k p g e =
     let z : j ≡ k = cc in
-    (omega (arith, some j g.2), omega (arith, header-most c s, g.1))
+    (omega (arith, pos_of_ne-zero g.2), omega (arith, header-most c s, g.1))
 judge-fault rows c q n at log (leaf h b r) k p g e =
     let x : Box = box_of q at h (length b) b in
     unless-fault (wrong rows n log x) _ k p _ (wrong-most rows n log x) e
@@ -90,7 +87,7 @@ judge-fault rows c q n at log (node h f i r) k p g e =
 -- every number of the paper is that of its rule
 pub numbered : (k : ℕ) → k ≤ 22 → number_of (rule_of k) ≡ k
 unfolding rule_of
-numbered k l = eqb-true _ k (within (λ n. eqb (number_of (rule_of n)) n) 0 23 refl k (omega arith) (omega arith))
+numbered k l = eqb-true _ k (agree_below_at (λ n. eqb (number_of (rule_of n)) n) (λ _. true) 23 k refl (omega arith))
 
 pub record Refused (rows : ℕ) (s : List ℕ) (k p : ℕ) : Type 0 where
   pub range : Ranged k

@@ -1,5 +1,5 @@
 -- What the reader tests of a box's fields is what the paper says of them, kind by kind. Assumes nothing.
-use mathlib.Core.Path.{◌≡◌, refl, sym}
+use mathlib.Core.Path.{◌≡◌, refl, sym, ◌∙◌}
 use mathlib.Core.Logic.{◌⊎◌, inl, inr}
 use Prim.Native.Nat.{ℕ, ◌+◌, ◌*◌, ◌/◌, ◌≤◌}
 use mathlib.Core.Bool.{Bool, true, false, not}
@@ -18,6 +18,9 @@ use Rattle.format.specs.Allowed.{MethodTakes, LengthsAgree, Says}
 use Rattle.format.specs.Judge.{ragged, cut, newer, takes, wrong_method, outside, wrong_length, malformed, agrees}
 
 -- ---- tests
+
+pub clash : {A : Type 0} {b : Bool} → b ≡ false → b ≡ true → A
+clash f t = absurd (true-not-false (sym f ∙ t))
 
 pub either_true : (a b : Bool) → either a b ≡ true → (a ≡ true) ⊎ (b ≡ true)
 either_true true b e = inl refl

@@ -2,16 +2,14 @@
 use mathlib.Core.Path.{◌≡◌, refl, sym, ap, ◌∙◌, subst}
 use Prim.Native.Nat.{ℕ, ◌+◌, ◌≤◌}
 use native.Mathlib.Omega.{arith}
-use mathlib.Core.Bool.{Bool, true, false}
 use mathlib.Core.List.{List, [], ◌∷◌, map}
 use lib.ListN.{length, drop}
 use lib.Seq.{slice, length-slice, take-take}
-use Rattle.numbers.specs.Choice.{pick}
 use Rattle.strings.specs.Headers.{Each}
 use Rattle.format.specs.declared.Place.TheVariants.{Top}
 use Rattle.format.specs.declared.Kind.{Kind}
 use Rattle.format.specs.declared.Kind.TheVariants.{Odhe, Ohdr, Odda}
-use Rattle.format.specs.Kinds.{fields_length, same_kind}
+use Rattle.format.specs.Kinds.{fields_length}
 use Rattle.format.specs.Tree.{Run, encode}
 use Rattle.format.specs.Fields.{type_length, id_length, issuer_length, headers_length, data_length}
 use Rattle.format.specs.Boxes.{Box, top, kind, room, boxes, only, Container, containers}
@@ -20,8 +18,8 @@ use Rattle.format.specs.Report.{stretch, bytes_in}
 use Rattle.format.specs.Standing.{body_in, Stands, HeaderStands}
 use Rattle.format.proofs.Headers.{fields-take}
 use Rattle.format.proofs.Slices.{slice-slice}
-use Rattle.format.proofs.Order.{same_kind_lem}
 use Rattle.format.proofs.Containers.{Sound, only-odhe, only-ohdr, only-odda}
+use Rattle.format.proofs.Tiling.{each_both, each-only}
 use Rattle.format.proofs.Standing.{file-stands}
 
 -- n bytes of the fields from byte k on stand in the file
@@ -71,12 +69,8 @@ header-stands s c e o d =
 -- ---- every container of a file
 
 held-only : (s : List ℕ) (k : Kind) (xs : List Box) → Each (Stands s) xs → Each Fielded xs → Each (Held s k) (only k xs)
-held-only s k [] a b = tt
-held-only s k (x ∷ xs) a b = go (same_kind (kind x) k) refl (held-only s k xs a.1 b.1)
-  where
-    go : (t : Bool) → same_kind (kind x) k ≡ t → Each (Held s k) (only k xs) → Each (Held s k) (pick t (x ∷ only k xs) (only k xs))
-    go true e rest = (record { stands = a.0; fielded = b.0; of = same_kind_lem (kind x) k e }, rest)
-    go false e rest = rest
+held-only s k xs a b =
+    each-only (λ x. Stands s x × Fielded x) (Held s k) k (λ x h e. record { stands = h.0; fielded = h.1; of = e }) xs (each_both (Stands s) Fielded xs a b)
 
 pub each_of : (P : Box → Type 0) (f : Container → Box) (cs : List Container) → Each P (map f cs) → Each (λ c. P (f c)) cs
 each_of P f [] a = tt

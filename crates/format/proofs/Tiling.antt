@@ -1,27 +1,29 @@
 -- The boxes of a good tree, filled and with fields that fit, are tiled. Assumes nothing.
-use mathlib.Core.Path.{◌≡◌, refl, sym, ap, ◌∙◌}
+use mathlib.Core.Path.{◌≡◌, refl, ap, ◌∙◌}
 use mathlib.Core.Logic.{◌⊎◌, inl, inr}
-use Prim.Native.Nat.{ℕ, ◌+◌, ◌≤◌, ◌<◌}
+use Prim.Native.Nat.{ℕ, zero, suc, ◌+◌, ◌≤◌, ◌<◌}
 use native.Mathlib.Nat.{zero-add}
 use native.Mathlib.Omega.{arith}
 use mathlib.Core.Bool.{Bool, true, false}
 use mathlib.Core.List.{List, [], ◌∷◌, ◌++◌, append_assoc, append-nil}
-use lib.ListN.{length, length-append}
+use lib.ListN.{length, get_or, length-append}
 use lib.Seq.{take-length}
 use lib.Dec.{leb, eqb}
 use borrow.Author.Tests.{eq-eqb, ne_eqb, le-leb, lt-leb, lt-ltb, le-ltb, leb-false}
-use Rattle.numbers.specs.Choice.{pick, both, true-not-false}
+use Rattle.numbers.specs.Choice.{pick, both}
 use Rattle.strings.specs.Headers.{Each}
 use Rattle.format.specs.declared.Place.{Place}
 use Rattle.format.specs.declared.Place.TheVariants.{Top}
 use Rattle.format.specs.declared.Kind.{Kind}
 use Rattle.format.specs.declared.Spot.{Spot}
-use Rattle.format.specs.Kinds.{fields_length, holds_run, inside}
+use Rattle.format.specs.Kinds.{fields_length, same_kind, holds_run, inside}
 use Rattle.format.specs.Tree.{Run, end, bad, leaf, node, encode, kind_at, opens, Good}
-use Rattle.format.specs.Boxes.{Box, top, kind, box_of, into, boxes, start}
+use Rattle.format.specs.Boxes.{Box, top, kind, box_of, into, boxes, only, start}
 use Rattle.format.specs.Allowed.{Filled, Fielded}
 use Rattle.format.specs.Tiling.{Tiles, level, is_in, children_of, Tiled}
 use Rattle.format.proofs.Headers.{at-least-eight, fields-take}
+use Rattle.format.proofs.Order.{same_kind_lem}
+use Rattle.format.proofs.Saying.{clash}
 
 -- ---- each of a list
 
@@ -40,6 +42,24 @@ each_right P (x ∷ xs) ys a = each_right P xs ys a.1
 pub each_map : {A : Type 0} (P Q : A → Type 0) → ((x : A) → P x → Q x) → (xs : List A) → Each P xs → Each Q xs
 each_map P Q f [] a = tt
 each_map P Q f (x ∷ xs) a = (f x a.0, each_map P Q f xs a.1)
+
+pub each_both : {A : Type 0} (P Q : A → Type 0) (xs : List A) → Each P xs → Each Q xs → Each (λ x. P x × Q x) xs
+each_both P Q [] a b = tt
+each_both P Q (x ∷ xs) a b = ((a.0, b.0), each_both P Q xs a.1 b.1)
+
+pub each_at : {A : Type 0} (P : A → Type 0) (d : A) (xs : List A) → Each P xs → (i : ℕ) → i < length xs → P (get_or xs i d)
+each_at P d [] a i l = absurd (omega arith)
+each_at P d (x ∷ xs) a zero l = a.0
+each_at P d (x ∷ xs) a (suc i) l = each_at P d xs a.1 i (omega arith)
+
+-- of the boxes of a kind
+pub each-only : (P Q : Box → Type 0) (k : Kind) → ((x : Box) → P x → kind x ≡ k → Q x) → (xs : List Box) → Each P xs → Each Q (only k xs)
+each-only P Q k f [] a = tt
+each-only P Q k f (x ∷ xs) a = go (same_kind (kind x) k) refl (each-only P Q k f xs a.1)
+  where
+    go : (t : Bool) → same_kind (kind x) k ≡ t → Each Q (only k xs) → Each Q (pick t (x ∷ only k xs) (only k xs))
+    go true e rest = (f x a.0 (same_kind_lem (kind x) k e), rest)
+    go false e rest = rest
 
 -- ---- the fields of a box of a good tree
 
@@ -224,7 +244,7 @@ fills c q at (leaf h b r) pre post g p f e a z =
     let en : ℕ = at + length (h ++ (b ++ encode r)) in
     let en' : ℕ = at' + length (encode r) in
     let sh : (pre ++ (x ∷ [])) ++ (boxes q at' r ++ post) ≡ pre ++ (x ∷ (boxes q at' r ++ post)) = append_assoc pre (x ∷ []) _ in (
-      λ t. absurd (true-not-false (sym (leaf-holds q at h b (rw (← p) at g.1) e.0) ∙ t)),
+      clash (leaf-holds q at h b (rw (← p) at g.1) e.0),
       rw sh at (fills c q at' r (pre ++ (x ∷ [])) post g.2 p f e.1
           (each_append _ pre (x ∷ []) (outer-all q.depth q.depth at at' en en' (omega arith) (omega arith) (omega arith) pre a) (inl (omega arith), tt))
           (outer-all q.depth q.depth at at' en en' (omega arith) (omega arith) (omega arith) post z)),

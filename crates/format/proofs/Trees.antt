@@ -3,11 +3,12 @@ use mathlib.Core.Path.{◌≡◌, refl, sym, ap, ap₂, ◌∙◌}
 use Prim.Native.Nat.{ℕ, zero, suc, ◌+◌, ◌≤◌}
 use native.Mathlib.Omega.{arith}
 use mathlib.Core.Bool.{true, false}
-use mathlib.Core.List.{List, [], ◌∷◌, ◌++◌, append_assoc}
+use mathlib.Core.List.{List, [], ◌++◌, append_assoc}
 use lib.ListN.{length, take, drop, length-append, length-drop, take-append-drop}
 use lib.Seq.{take_at, drop_at, length-take-le}
 use lib.Dec.{eqb}
 use borrow.Author.Tests.{leb-true, le-leb, ne_eqb, eqb-true, eqb-false}
+use Rattle.std.proofs.lemmas.List.{nil_from_length}
 use Rattle.numbers.specs.Choice.{pick-by, both_true}
 use Rattle.format.specs.declared.Place.{Place}
 use Rattle.format.specs.declared.Kind.{Kind}
@@ -73,10 +74,6 @@ pub record Whole (c : Place) (s : List ℕ) (t : Run) : Type 0 where
   pub good : Good c t
   pub same : encode t ≡ s
 
-empty : (s : List ℕ) → length s ≡ 0 → s ≡ []
-empty [] e = refl
-empty (x ∷ s) e = absurd (omega arith)
-
 opened : (k : Kind) (b : List ℕ) → opens k b ≡ true → (holds_run k ≡ true) × (fields_length k b ≤ length b)
 unfolding opens
 opened k b e = let p = both_true (holds_run k) _ e in (p.0, leb-true _ _ p.1)
@@ -114,10 +111,10 @@ grown n c s l ih q =
 pub parse-whole : (n : ℕ) (c : Place) (s : List ℕ) → length s ≤ n → Whole c s (parse n c s)
 unfolding parse
 parse-whole zero c s l =
-    pick-by (Whole c s) (eqb (length s) 0) _ _ (λ e. record { good = tt; same = sym (empty s (eqb-true _ _ e)) })
+    pick-by (Whole c s) (eqb (length s) 0) _ _ (λ e. record { good = tt; same = sym (nil_from_length s (eqb-true _ _ e)) })
     (λ f. absurd (eqb-false (length s) 0 f (omega arith)))
 parse-whole (suc n) c s l =
-    pick-by (Whole c s) (eqb (length s) 0) _ _ (λ e. record { good = tt; same = sym (empty s (eqb-true _ _ e)) })
+    pick-by (Whole c s) (eqb (length s) 0) _ _ (λ e. record { good = tt; same = sym (nil_from_length s (eqb-true _ _ e)) })
     (λ f. pick-by (Whole c s) (eqb (header_fault c s) 0) _ _
     (λ e. grown n c s l (parse-whole n) (good-cut c s (eqb-true _ _ e)))
     (λ k. record { good = (eqb-false _ _ f, refl, eqb-false _ _ k); same = refl }))

@@ -2,7 +2,6 @@
 -- Assumes nothing.
 use mathlib.Core.Path.{◌≡◌, refl, sym, ap, ◌∙◌}
 use Prim.Native.Nat.{ℕ, ◌+◌}
-use native.Mathlib.Omega.{arith}
 use mathlib.Core.Bool.{Bool, true, false}
 use mathlib.Core.List.{List, [], ◌∷◌, ◌++◌, append_assoc, append-nil}
 use lib.ListN.{length}
@@ -46,11 +45,11 @@ unless-done k place o l = go (eqb k 0) refl
   where
     go : (t : Bool) → eqb k 0 ≡ t → pick t o (fault k place) ≡ done l → (k ≡ 0) × (o ≡ done l)
     go true h e = (eqb-true k 0 h, e)
-    go false h e = let z : ◌≡◌ {A = ℕ} 0 1 = cc in absurd (omega arith)
+    go false h e = absurd (cc)
 
 then-done : (o : Out) (f : List Box → Out) (l : List Box) → and_then o f ≡ done l → (m : List Box) × (o ≡ done m) × (f m ≡ done l)
 unfolding and_then
-then-done (fault k p) f l e = let z : ◌≡◌ {A = ℕ} 0 1 = cc in absurd (omega arith)
+then-done (fault k p) f l e = absurd (cc)
 then-done (done m) f l e = (m, refl, e)
 
 -- ---- a list of boxes
@@ -78,9 +77,9 @@ pub judge-passed : (cap : ℕ) (q : Spot) (n : Seen) (at : ℕ) (log : List Box)
     → judge cap q n at log t ≡ done l → Passed cap q n at log t l
 judge-passed cap q n at log end l e =
     pick-by (λ (o : Out). o ≡ done l → Passed cap q n at log end l) (missing q.place n) _ _
-    (λ _ e. let z : ◌≡◌ {A = ℕ} 0 1 = cc in absurd (omega arith))
+    (λ _ e. absurd (cc))
     (λ f e. let z : log ≡ l = cc in record { scanned = f; nested = tt; clear = tt; all = sym (append-nil log ∙ z) }) e
-judge-passed cap q n at log (bad k s) l e = let z : ◌≡◌ {A = ℕ} 0 1 = cc in absurd (omega arith)
+judge-passed cap q n at log (bad k s) l e = absurd (cc)
 judge-passed cap q n at log (leaf h b r) l e =
     let x : Box = box_of q at h (length b) b in
     let s = unless-done (wrong cap n log x) _ _ l e in

@@ -40,10 +40,6 @@ pub token-colon : token 58 ≡ false
 unfolding token
 token-colon = refl
 
-pub token-zero : token 0 ≡ false
-unfolding token
-token-zero = refl
-
 -- a byte that is no token character stands in no list of them
 pub without : (z : ℕ) → token z ≡ false → (xs : List ℕ) → Each (λ x. token x ≡ true) xs → Each (λ x. x ≡ z → ⊥) xs
 without z f [] h = tt
@@ -216,8 +212,8 @@ entry-not-empty : (e : Entry) (t : List ℕ) → [] ≡ entry_bytes e ++ t → �
 entry-not-empty e t h = go e.name (h ∙ entry-split e t)
   where
     go : (n : List ℕ) → [] ≡ n ++ (58 ∷ (e.value ++ (0 ∷ t))) → ⊥
-    go [] k = let z : ◌≡◌ {A = ℕ} 0 1 = cc in omega arith
-    go (x ∷ n) k = let z : ◌≡◌ {A = ℕ} 0 1 = cc in omega arith
+    go [] k = absurd (cc)
+    go (x ∷ n) k = absurd (cc)
 
 pub entries-unique : (xs ys : List Entry) → Each GoodEntry xs → Each GoodEntry ys → field_of xs ≡ field_of ys → xs ≡ ys
 entries-unique [] [] f g e = refl

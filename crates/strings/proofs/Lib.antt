@@ -1,4 +1,3 @@
 pub mod Laws
 pub mod Library
-pub mod Ranges
 pub mod Search

@@ -6,9 +6,10 @@ use native.Mathlib.Omega.{arith}
 use mathlib.Core.Bool.{Bool, true, false}
 use mathlib.Core.List.{List, [], ◌∷◌, ◌++◌}
 use lib.ListN.{length, take, drop, length-append, length-drop}
-use lib.Seq.{take_all, take_at, drop-append-add}
+use lib.Seq.{take_at, drop-append-add}
 use borrow.Author.Tests.{eqb-true, eqb-false, eq-eqb, ne_eqb}
 use Rattle.std.specs.Prelude.{◌==◌, Option, Some, None}
+use Rattle.std.proofs.lemmas.List.{take_rest, nil_from_length}
 use Rattle.strings.specs.Characters.{same_name}
 use Rattle.strings.specs.Headers.{Each, Entry, GoodEntry, entry_bytes, field_of, Textual, textual, index, lookup, Answers}
 use Rattle.strings.proofs.Laws.{token-colon, without, entry-split, textual-good, good-textual, entries-unique}
@@ -17,11 +18,8 @@ use Rattle.strings.proofs.Laws.{token-colon, without, entry-split, textual-good,
 abbrev pub past : ℕ → List ℕ → List ℕ
 past k s = take (length s - k) (drop k s)
 
-past_drop : (k : ℕ) (s : List ℕ) → past k s ≡ drop k s
-past_drop k s = take_all (length s - k) (drop k s) (omega (arith, length-drop k s))
-
 length_past : (k : ℕ) (s : List ℕ) → length (past k s) ≡ length s - k
-length_past k s = ap length (past_drop k s) ∙ length-drop k s
+length_past k s = ap length (take_rest s k) ∙ length-drop k s
 
 -- ---- where a byte is first
 
@@ -46,7 +44,7 @@ first z s xs t k h d e =
       place = p;
       inside = omega arith;
       before = ap (take k) d ∙ take_at xs (z ∷ t) k (omega arith);
-      later = past_drop (k + 1) s ∙ ap₂ drop n d ∙ drop-append-add xs (z ∷ t) 1;
+      later = take_rest s (k + 1) ∙ ap₂ drop n d ∙ drop-append-add xs (z ∷ t) 1;
     }
 
 -- ---- an entry, and what is left after it
@@ -110,12 +108,8 @@ answers {field} {name} f w r e = record {
 pub none_left : {field name rest : List ℕ} → Left field name rest → (length rest == 0) ≡ true → Answers field name None
 unfolding lookup
 none_left {field} {name} {rest} f l =
-    let w : Textual rest = record { entries = []; good = tt; bytes = empty rest (eqb-true (length rest) 0 l) } in
+    let w : Textual rest = record { entries = []; good = tt; bytes = nil_from_length rest (eqb-true (length rest) 0 l) } in
     answers f w None refl
-  where
-    empty : (s : List ℕ) → length s ≡ 0 → s ≡ []
-    empty [] e = refl
-    empty (x ∷ xs) e = absurd (omega (arith, e))
 
 module _ {field name rest : List ℕ} (f : Left field name rest) (l : (length rest == 0) ≡ false)
     {colon end : ℕ} (e : colon ≡ index 58 rest) (g : end ≡ index 0 (past (colon + 1) rest))
