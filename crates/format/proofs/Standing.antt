@@ -13,13 +13,8 @@ use Rattle.format.specs.Tree.{Run, end, bad, leaf, node, encode, kind_at, Headed
 use Rattle.format.specs.Boxes.{Box, box_of, into, boxes}
 use Rattle.format.specs.Standing.{Stands}
 use Rattle.format.proofs.Headers.{at-least-eight, header-length, header-size, header-type, fields-append}
+use Rattle.format.proofs.Slices.{slice-mid}
 use Rattle.format.proofs.Tiling.{each_append, node-fields}
-
--- a part of an append of three
-slice-mid : (a b c : List ℕ) (i j : ℕ) → length a ≡ i → i + length b ≡ j → slice i j (a ++ (b ++ c)) ≡ b
-slice-mid a b c i j e f =
-    let l : length (a ++ b) ≡ j = length-append a b ∙ omega arith in
-    ap (drop i) (ap (take j) (sym (append_assoc a b c)) ∙ take_at (a ++ b) c j l) ∙ drop_at a b i e
 
 -- a box whose header is h and whose bytes after it are b stands behind pre and before post
 one-stands : (c : Place) (q : Spot) (at n left : ℕ) (pre h b f post : List ℕ) → q.place ≡ c → length pre ≡ at → length b ≡ n → Headed c left h n

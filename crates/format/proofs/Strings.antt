@@ -35,7 +35,7 @@ fields-stand s x k n t f l =
     let p : x.at + x.skip + k + n ≡ x.at + x.skip + (k + n) = omega arith in
     sym
     (ap (slice k (k + n)) t.fields ∙ ap (drop k) (take-take (k + n) F b h)
-    ∙ slice-slice (x.at + x.skip) (x.at + x.size) k n s (omega (arith, t.headed)) (omega (arith, t.within.0, t.within.1)) ∙ rw p)
+    ∙ slice-slice (x.at + x.skip) (x.at + x.size) k n s (omega (arith, t.headed)) ∙ rw p)
 
 -- ---- the header of a container whose boxes stand
 
