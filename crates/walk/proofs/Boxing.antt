@@ -138,4 +138,4 @@ module _ (s : List ℕ) (c : Place) (at end : ℕ) (lt : at ≤ end) (le : end �
       let e1 : drop m b ≡ slice (at + m) end s = slice-drop at end m s in
       let h : at + m + (z - m) ≤ end = omega (arith, k.least, k.most) in
       let j : at + m + (z - m) ≡ at + z = omega (arith, k.least) in
-      ap (take (z - m)) e1 ∙ take-slice (at + m) end (z - m) s h le ∙ ap (λ (i : ℕ). slice (at + m) i s) j
+      ap (take (z - m)) e1 ∙ take-slice (at + m) end (z - m) s h ∙ ap (λ (i : ℕ). slice (at + m) i s) j

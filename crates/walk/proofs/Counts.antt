@@ -1,5 +1,5 @@
 -- A box that breaks neither 5 nor 6 leaves at most eight containers, and no more ohdr boxes than containers. Assumes nothing.
-use mathlib.Core.Path.{◌≡◌, refl, sym, ◌∙◌}
+use mathlib.Core.Path.{◌≡◌, refl, sym}
 use Prim.Native.Nat.{ℕ, ◌+◌, ◌≤◌, ◌<◌}
 use native.Mathlib.Omega.{arith}
 use mathlib.Core.Bool.{Bool, true, false}
@@ -13,6 +13,7 @@ use Rattle.format.specs.declared.Kind.TheVariants.{Ftyp, Odrm, Odhe, Ohdr, Odda,
 use Rattle.format.specs.declared.Seen.{Seen}
 use Rattle.format.specs.Kinds.{kind_number, same_kind, is_six, holds_run, inside}
 use Rattle.format.specs.Judge.{nothing, note, no_row, late_at_top, misplaced}
+use Rattle.format.proofs.Saying.{clash}
 use Rattle.walk.specs.declared.Tally.{Tally}
 use Rattle.walk.specs.Walking.{is_top, to_come, Counted}
 
@@ -74,8 +75,8 @@ plain : (c : Place) (n : Seen) (k : Kind) (t : Tally) → same_kind k Odrm ≡ f
     → t.headers + to_come (inside k) nothing ≤ t.containers → Counted c n t → Counting c n k t
 unfolding note
 plain c n k t e f l d = record {
-  odrm = λ z. absurd (true-not-false (sym e ∙ z));
-  ohdr = λ z. absurd (true-not-false (sym f ∙ z));
+  odrm = λ z. clash e z;
+  ohdr = λ z. clash f z;
   spare = rw (e, f) l;
   most = rw e d.most;
   same = λ _. rw e;
@@ -93,7 +94,7 @@ counting cap c n rows Odrm t d r m =
       ohdr = λ z. absurd (true-not-false z);
       spare = omega (arith, d.spare);
       most = omega arith;
-      same = λ f. absurd (true-not-false (sym f ∙ u));
+      same = λ f. clash f u;
       top = λ _. omega arith;
     }
 counting cap c n rows Odhe t d r m =

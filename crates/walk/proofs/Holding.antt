@@ -8,6 +8,7 @@ use mathlib.Core.Bool.{Bool, true, false}
 use mathlib.Core.List.{List, [], ◌∷◌, ◌++◌, append-nil, map}
 use lib.ListN.{length, take, set, length-append, length-set}
 use lib.Seq.{slice, take-suc-set}
+use Rattle.std.proofs.lemmas.List.{map-append}
 use Rattle.numbers.specs.Choice.{pick}
 use Rattle.numbers.specs.Big.{num}
 use Rattle.numbers.proofs.Laws.{num-take}
@@ -22,7 +23,7 @@ use Rattle.format.specs.Boxes.{Box, no_box, kind, only}
 use Rattle.format.specs.Judge.{ids, last_of, last_ohdr}
 use Rattle.format.specs.Report.{row_of, rows, is_free, free_total, mdri_at, transaction_after, transaction_at, bytes_in}
 use Rattle.format.proofs.Order.{same_kind_lem}
-use Rattle.format.proofs.Logs.{only-append, last_snoc, ids-snoc}
+use Rattle.format.proofs.Logs.{only-append, last-append, last_snoc, ids-snoc}
 use Rattle.boxes.specs.declared.Head.{Head}
 use Rattle.walk.specs.declared.Kept.{Kept}
 use Rattle.walk.specs.Keeping.{tally_of, free_at, added, with_box, Holds}
@@ -35,10 +36,6 @@ length-snoc k log x = ap length (only-append k log (x ∷ [])) ∙ go (same_kind
     go : (t : Bool) → length (only k log ++ pick t (x ∷ []) []) ≡ pick t (length (only k log) + 1) (length (only k log))
     go true = length-append (only k log) (x ∷ [])
     go false = ap length (append-nil (only k log))
-
-last-append : (d : Box) (xs ys : List Box) → last_of d (xs ++ ys) ≡ last_of (last_of d xs) ys
-last-append d [] ys = refl
-last-append d (x ∷ xs) ys = last-append x xs ys
 
 mdri-snoc : (log : List Box) (x : Box) → mdri_at (log ++ (x ∷ [])) ≡ pick (same_kind (kind x) Mdri) x.at (mdri_at log)
 mdri-snoc log x =
@@ -98,10 +95,6 @@ tally-add log x h b e1 e2 e3 e4 =
 
 -- ---- lists with one element more
 
-map_append : {A B : Type 0} (f : A → B) (xs ys : List A) → map f (xs ++ ys) ≡ map f xs ++ map f ys
-map_append f [] ys = refl
-map_append f (x ∷ xs) ys = ap (λ l. f x ∷ l) (map_append f xs ys)
-
 -- the first n, with an element more just where it is stored behind them
 stored-more : {A : Type 0} (l : List A) (n : ℕ) (t : Bool) (y : A) → (t ≡ true → n < length l)
     → take (pick t (n + 1) n) (pick t (set l n y) l) ≡ take n l ++ pick t (y ∷ []) []
@@ -117,12 +110,12 @@ rows-add : (log : List Box) (x : Box) (count : ℕ) (out : List Row) → (count 
 rows-add log x count out f l =
     let m : count < length out = omega (arith, l, length-set out count (row_of x)) in
     stored-more out count true (row_of x) (λ _. m)
-    ∙ ap (λ (r : List Row). r ++ (row_of x ∷ [])) (f (omega arith)) ∙ sym (map_append row_of log (x ∷ []))
+    ∙ ap (λ (r : List Row). r ++ (row_of x ∷ [])) (f (omega arith)) ∙ sym (map-append row_of log (x ∷ []))
 
 starts-snoc : (k : Kind) (log : List Box) (x : Box)
     → map (λ (y : Box). y.at) (only k (log ++ (x ∷ []))) ≡ map (λ (y : Box). y.at) (only k log) ++ pick (same_kind (kind x) k) (x.at ∷ []) []
 starts-snoc k log x =
-    ap (map (λ (y : Box). y.at)) (only-append k log (x ∷ [])) ∙ map_append (λ (y : Box). y.at) (only k log) (only k (x ∷ []))
+    ap (map (λ (y : Box). y.at)) (only-append k log (x ∷ [])) ∙ map-append (λ (y : Box). y.at) (only k log) (only k (x ∷ []))
     ∙ ap (λ (l : List ℕ). map (λ (y : Box). y.at) (only k log) ++ l) (map-one (λ (y : Box). y.at) (same_kind (kind x) k) x)
 
 -- ---- all of it
@@ -148,7 +141,7 @@ holds-add s log y out x h b o f =
       rows = λ l. rows-add log x y.count out o.rows l;
       starts = stored-more y.starts y.tally.containers (same_kind (kind x) Odrm) x.at f.odrm ∙ rw o.starts (sym (starts-snoc Odrm log x));
       names = ap (map (bytes_in s)) (stored-more y.ids y.tally.headers (same_kind (kind x) Ohdr) p f.ohdr)
-          ∙ map_append (bytes_in s) (take y.tally.headers y.ids) (pick (same_kind (kind x) Ohdr) (p ∷ []) [])
+          ∙ map-append (bytes_in s) (take y.tally.headers y.ids) (pick (same_kind (kind x) Ohdr) (p ∷ []) [])
           ∙ rw (o.names, map-one (bytes_in s) (same_kind (kind x) Ohdr) p)
           (ap (λ (l : List (List ℕ)). ids log ++ l) (pick-left (same_kind (kind x) Ohdr) _ _ _ (λ e. ap (λ (i : List ℕ). i ∷ []) (f.named e)))
           ∙ sym (ids-snoc log x));

@@ -1,12 +1,11 @@
 -- What one box and a run ensure follows from what the functions below them do. Assumes nothing.
 use mathlib.Core.Path.{◌≡◌, refl, sym, ap, subst, ◌∙◌}
 use Prim.Native.Nat.{ℕ, zero, suc, ◌+◌, ◌-◌, ◌≤◌, ◌<◌}
-use native.Mathlib.Numerals.{add-one}
 use native.Mathlib.Omega.{arith}
 use mathlib.Core.Bool.{Bool, true, false}
 use mathlib.Core.List.{List, [], ◌∷◌, ◌++◌}
 use lib.ListN.{length, take, drop, set}
-use lib.Seq.{slice, slice_empty, length-slice, take-length, take-take}
+use lib.Seq.{slice, slice_empty, length-slice, take-length, take-take, drop-drop, drop-set-lt}
 use borrow.Author.Tests.{le-leb, le-ltb, lt-ltb, ne_eqb}
 use Rattle.std.specs.Prelude.{replicate, Option, Some, None, Result, Ok, Err}
 use Rattle.numbers.specs.Choice.{pick, pick-by, true-not-false}
@@ -83,9 +82,6 @@ told-kept s (done l) r y out q t f = (l, t.1, refl)
 unless-none : (k place : ℕ) (o : Out) → k ≡ 0 → unless k place o ≡ o
 unless-none k place o e = rw e
 
-unless-some : (k place : ℕ) (o : Out) → (k ≡ 0 → ⊥) → unless k place o ≡ fault k place
-unless-some k place o f = rw (ne_eqb k 0 f)
-
 opens_not : (k : Kind) (b : List ℕ) → holds_run k ≡ false → opens k b ≡ false
 unfolding opens
 opens_not k b e = rw e
@@ -113,7 +109,7 @@ id-in s b from to e m l =
     let n : ℕ = id_length b in
     let lb : length b ≡ to - from = ap length e ∙ length-slice from to s m in
     let p : from + 20 + n ≡ from + (20 + n) = omega arith in
-    rw p (sym (slice-slice from to 20 n s (omega arith) m) ∙ ap (slice 20 (20 + n)) (sym e))
+    rw p (sym (slice-slice from to 20 n s (omega arith)) ∙ ap (slice 20 (20 + n)) (sym e))
 
 -- ---- what is known of the box at an offset, once its header is read and no rule is broken
 
@@ -127,7 +123,7 @@ pub record Fair (s : List ℕ) (c : Place) (at end : ℕ) (h : Head) : Type 0 wh
 -- the header that was read of the part that is left
 pub head-of : {s : List ℕ} {cap at end : ℕ} {q : Spot} {n : Seen} {y : Kept} {r u : Result Head Rule} → at < end → Ready s cap end q n at y
     → ((c : Place) → r ≡ head_in c (take (end - at) (drop at s))) → r ≡ u → head_in q.place (slice at end s) ≡ u
-head-of {s} {at = at} {end = end} {q = q} lt rd e i = ap (head_in q.place) (sym (part_slice at end s (omega arith) rd.ends)) ∙ sym (e q.place) ∙ i
+head-of {s} {at = at} {end = end} {q = q} lt rd e i = ap (head_in q.place) (sym (part_slice at end s (omega arith))) ∙ sym (e q.place) ∙ i
 
 pub fair : (s : List ℕ) (c : Place) (at end : ℕ) (h : Head) → at ≤ end → end ≤ length s → head_in c (slice at end s) ≡ Ok h → Fair s c at end h
 fair s c at end h lt le e =
@@ -154,28 +150,13 @@ pub met : {s : List ℕ} {cap at end : ℕ} {q : Spot} {n : Seen} {y : Kept} {h 
 met {s} {at = at} {end = end} {q = q} {h = h} lt rd e i ek =
     let hd = head-of lt rd e i in
     let f = fair s q.place at end h (omega arith) rd.ends hd in
-    record { head = hd; of = ek; bytes = part_slice (at + h.skip) (at + h.size) s (omega (arith, f.least)) (omega (arith, f.most, rd.ends)) }
+    record { head = hd; of = ek; bytes = part_slice (at + h.skip) (at + h.size) s (omega (arith, f.least)) }
 
--- rows behind a store, and behind more
-past-store : (l : List Row) (n : ℕ) (x : Row) → drop (suc n) (set l n x) ≡ drop (suc n) l
-past-store [] n x = refl
-past-store (y ∷ l) zero x = refl
-past-store (y ∷ l) (suc n) x = past-store l n x
-
-past-set : (l : List Row) (n : ℕ) (x : Row) → drop (n + 1) (set l n x) ≡ drop (n + 1) l
-past-set l n x = rw (add-one n) (past-store l n x)
-
-drop-nil : (n : ℕ) → drop {A = Row} n [] ≡ []
-drop-nil zero = refl
-drop-nil (suc n) = refl
-
+-- rows that agree from n on agree from m on
 past-more : (l l' : List Row) (n m : ℕ) → n ≤ m → drop n l ≡ drop n l' → drop m l ≡ drop m l'
-past-more l l' zero m h e = ap (drop m) e
-past-more l l' (suc n) zero h e = absurd (omega arith)
-past-more [] [] (suc n) (suc m) h e = refl
-past-more [] (y ∷ l') (suc n) (suc m) h e = sym (drop-nil m) ∙ past-more [] l' n m (omega arith) (drop-nil n ∙ e)
-past-more (x ∷ l) [] (suc n) (suc m) h e = past-more l [] n m (omega arith) (e ∙ sym (drop-nil n)) ∙ drop-nil m
-past-more (x ∷ l) (y ∷ l') (suc n) (suc m) h e = past-more l l' n m (omega arith) e
+past-more l l' n m h e =
+    let k : n + (m - n) ≡ m = omega arith in
+    rw (drop-drop (m - n) n l, drop-drop (m - n) n l', k) at (ap (drop (m - n)) e)
 
 module _ {s : List ℕ} {cap end : ℕ} {q : Spot} {n : Seen} {at : ℕ} {y : Kept} where
   stepped-err : {out : List Row} {r : Result (ℕ × Kind) Refusal} {y' : Kept} {out' : List Row} (e : Refusal) → r ≡ Err e
@@ -339,7 +320,7 @@ module _ {s : List ℕ} {cap end : ℕ} {q : Spot} {n : Seen} {at : ℕ} {y : Ke
               after = record {
                 few = omega (arith, known-none.few);
                 grows = omega arith;
-                past = past-set out y.count its-row;
+                past = drop-set-lt (y.count + 1) out y.count its-row (omega arith);
                 spare = omega (arith, c.spare);
                 most = c.most;
                 same = c.same;
@@ -433,7 +414,7 @@ module _ {s : List ℕ} {cap end : ℕ} {q : Spot} {n : Seen} {at : ℕ} {y : Ke
                 after = record {
                   few = a.few;
                   grows = omega (arith, a.grows);
-                  past = a.past ∙ past-more (set out y.count its-row) out (y.count + 1) y'.count a.grows (past-set out y.count its-row);
+                  past = a.past ∙ past-more (set out y.count its-row) out (y.count + 1) y'.count a.grows (drop-set-lt (y.count + 1) out y.count its-row (omega arith));
                   spare = a.spare;
                   most = a.most;
                   same = λ u. a.same nt ∙ c.same u;
