@@ -144,13 +144,22 @@ pub record Met (s : List ℕ) (q : Spot) (at end : ℕ) (h : Head) (k : Kind) (b
   pub of : k ≡ kind_of q.place h.boxtype
   pub bytes : b ≡ slice (at + h.skip) (at + h.size) s
 
+-- those bytes, as a lent slice has them
+abbrev pub after_header : List ℕ → ℕ → Head → List ℕ
+after_header s at h = take (at + h.size - (at + h.skip)) (drop (at + h.skip) s)
+
 pub met : {s : List ℕ} {cap at end : ℕ} {q : Spot} {n : Seen} {y : Kept} {h : Head} {k : Kind} {r : Result Head Rule} → at < end → Ready s cap end q n at y
     → ((c : Place) → r ≡ head_in c (take (end - at) (drop at s))) → r ≡ Ok h → k ≡ kind_of q.place h.boxtype
-    → Met s q at end h k (take (at + h.size - (at + h.skip)) (drop (at + h.skip) s))
+    → Met s q at end h k (after_header s at h)
 met {s} {at = at} {end = end} {q = q} {h = h} lt rd e i ek =
     let hd = head-of lt rd e i in
     let f = fair s q.place at end h (omega arith) rd.ends hd in
     record { head = hd; of = ek; bytes = part_slice (at + h.skip) (at + h.size) s (omega (arith, f.least)) }
+
+-- the box that was met breaks no rule
+pub record Judged (s : List ℕ) (cap end : ℕ) (q : Spot) (n : Seen) (at : ℕ) (y : Kept) (h : Head) (k : Kind) : Type 0 where
+  pub met : Met s q at end h k (after_header s at h)
+  pub fine : ◌≡◌ {A = Result (Unit {0}) Rule} (unless_broken (number_in cap q.place n k y (after_header s at h) (ids_in s y.ids y.tally.headers)) tt) (Ok tt)
 
 -- rows that agree from n on agree from m on
 past-more : (l l' : List Row) (n m : ℕ) → n ≤ m → drop n l ≡ drop n l' → drop m l ≡ drop m l'
