@@ -1,6 +1,6 @@
 -- In every accepted file each container is what its summary is made from: what summary_at asks of an odrm's offset holds. Assumes nothing.
 use mathlib.Core.Path.{◌≡◌, refl, sym, ap, ◌∙◌}
-use Prim.Native.Nat.{ℕ, zero, suc, ◌+◌, ◌≤◌, ◌<◌}
+use Prim.Native.Nat.{ℕ, ◌+◌, ◌≤◌, ◌<◌}
 use native.Mathlib.Omega.{arith}
 use mathlib.Core.Bool.{Bool, true, false}
 use mathlib.Core.List.{List, [], ◌∷◌, ◌++◌, map}
@@ -13,7 +13,7 @@ use Rattle.format.specs.declared.Place.TheVariants.{Top}
 use Rattle.format.specs.declared.Kind.{Kind}
 use Rattle.format.specs.declared.Kind.TheVariants.{Odrm, Odhe, Ohdr, Odda}
 use Rattle.format.specs.declared.Spot.{Spot}
-use Rattle.format.specs.Kinds.{ODRM, ODDA, other_in, kind_of, fields_length, kind_number, same_kind}
+use Rattle.format.specs.Kinds.{ODRM, ODDA, other_in, kind_of, fields_length, kind_number}
 use Rattle.format.specs.Header.{type_of}
 use Rattle.format.specs.Tree.{Run, end, bad, leaf, node, encode, Good}
 use Rattle.format.specs.Boxes.{Box, top, kind, box_of, into, boxes, only, Container, first_of, inside_first, after_first, start, container_of, containers}
@@ -21,8 +21,7 @@ use Rattle.format.specs.Allowed.{Fielded}
 use Rattle.format.specs.Judge.{done, read_of}
 use Rattle.format.specs.Report.{containers_in}
 use Rattle.format.specs.Standing.{Stands}
-use Rattle.format.proofs.Tiling.{each_append}
-use Rattle.format.proofs.Order.{same_kind_lem}
+use Rattle.format.proofs.Tiling.{each_append, each_both, each_at, each-only}
 use Rattle.format.proofs.Containers.{Sound, only-odrm, only-odhe, only-ohdr, only-odda}
 use Rattle.format.proofs.Standing.{file-stands}
 use Rattle.format.proofs.Strings.{each_of}
@@ -52,12 +51,9 @@ record Held (s : List ℕ) (k : Kind) (x : Box) : Type 0 where
   of : kind x ≡ k
 
 held-only : (s : List ℕ) (k : Kind) (xs : List Box) → Each (Stands s) xs → Each Fielded xs → Each Long xs → Each (Held s k) (only k xs)
-held-only s k [] a b l = tt
-held-only s k (x ∷ xs) a b l = go (same_kind (kind x) k) refl (held-only s k xs a.1 b.1 l.1)
-  where
-    go : (t : Bool) → same_kind (kind x) k ≡ t → Each (Held s k) (only k xs) → Each (Held s k) (pick t (x ∷ only k xs) (only k xs))
-    go true e rest = (record { stands = a.0; fielded = b.0; long = l.0; of = same_kind_lem (kind x) k e }, rest)
-    go false e rest = rest
+held-only s k xs a b l =
+    each-only (λ x. Stands s x × (Fielded x × Long x)) (Held s k) k (λ x h e. record { stands = h.0; fielded = h.1.0; long = h.1.1; of = e }) xs
+    (each_both (Stands s) (λ x. Fielded x × Long x) xs a (each_both Fielded Long xs b l))
 
 -- ---- where the boxes of a container are
 
@@ -160,11 +156,6 @@ accepted-contained cap s l e =
 
 -- ---- the containers at the offsets that a reading has kept
 
-each_at : (P : Container → Type 0) (cs : List Container) → Each P cs → (i : ℕ) → i < length cs → P (get_or cs i no_container)
-each_at P [] a i l = absurd (omega arith)
-each_at P (c ∷ cs) a zero l = a.0
-each_at P (c ∷ cs) a (suc i) l = each_at P cs a.1 i (omega arith)
-
 pub kept-listed : (s starts : List ℕ) (n : ℕ) (cs : List Container) → length cs ≡ n → take n starts ≡ map (λ c. c.odrm.at) cs
     → Each (λ c. Contained s c.odrm.at c) cs → Listed s starts n cs
 kept-listed s starts n cs k t a = record {
@@ -172,7 +163,7 @@ kept-listed s starts n cs k t a = record {
   each = λ i l.
       let e : get_or starts i 0 ≡ (get_or cs i no_container).odrm.at =
       sym (get_or-take n starts i 0 l) ∙ ap (λ (xs : List ℕ). get_or xs i 0) t ∙ get_or-map (λ c. c.odrm.at) cs i no_container in
-      rw e (each_at (λ c. Contained s c.odrm.at c) cs a i (omega arith));
+      rw e (each_at (λ c. Contained s c.odrm.at c) no_container cs a i (omega arith));
 }
 
 pub listed-begun : {s starts : List ℕ} {n : ℕ} {cs : List Container} → n ≤ 8 → n ≤ length starts → Listed s starts n cs → Begun s starts n

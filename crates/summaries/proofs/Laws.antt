@@ -95,27 +95,27 @@ module _ {s : List ℕ} {k : Kind} {at depth : ℕ} {x : Box} (o : Opens s k at 
       let w : take (length s - at) (drop at s) ≡ drop x.at s = take_all (length s - at) (drop at s) (omega arith) ∙ ap (λ (n : ℕ). drop n s) (sym o.here) in
       e x.place ∙ rw (w, fine) (ap (λ (h : Head). Ok h) (rw (o.stands.size, o.stands.skip, o.stands.type)))
 
-  pub head-of : {r : Result Head Rule} {h : Head} → ((c : Place) → r ≡ head_in c (take (length s - at) (drop at s))) → r ≡ Ok h → HeadOf x h
+  head-of : {r : Result Head Rule} {h : Head} → ((c : Place) → r ≡ head_in c (take (length s - at) (drop at s))) → r ≡ Ok h → HeadOf x h
   head-of {r} {h} e i = same h (sym (head e) ∙ i)
     where
       same : (h : Head) → ◌≡◌ {A = Result Head Rule} (Ok (record { size = x.size; skip = x.skip; boxtype = x.type })) (Ok h) → HeadOf x h
       same h q = let p : h ≡ record { size = x.size; skip = x.skip; boxtype = x.type } = cc in rw p (record { size = refl; skip = refl; boxtype = refl })
 
   -- the version and flags stand in s
-  pub flags-in : {h : Head} → HeadOf x h → at + h.skip + 4 ≤ length s
-  flags-in w = omega (arith, o.here, w.skip, ends, fields-end, o.full)
-
-  pub end-in : {h : Head} → HeadOf x h → at + h.size ≤ length s
-  end-in w = omega (arith, o.here, w.size, ends)
+  pub flags-in : {r : Result Head Rule} {h : Head} → ((c : Place) → r ≡ head_in c (take (length s - at) (drop at s))) → r ≡ Ok h → at + h.skip + 4 ≤ length s
+  flags-in e i = omega (arith, o.here, (head-of e i).skip, ends, fields-end, o.full)
 
   -- what is read of the box is the box's
-  pub opened : (h : Head) (f : ℕ) → HeadOf x h → f ≡ num 3 s (at + h.skip + 1)
+  pub opened : {r : Result Head Rule} {h : Head} {f : ℕ} → ((c : Place) → r ≡ head_in c (take (length s - at) (drop at s))) → r ≡ Ok h
+      → f ≡ num 3 s (at + h.skip + 1)
       → ◌≡◌ {A = Opened} (record {
         full = record { row = record { offset = at; size = h.size; depth = depth; boxtype = h.boxtype }; flags = f };
         fields = at + h.skip;
         end = at + h.size;
       }) (opened_of x)
-  opened h f w e = rw (e, w.size, w.skip, w.boxtype, ← o.here, ← o.deep, ← field 3 1 o.full)
+  opened e i g =
+      let w = head-of e i in
+      rw (g, w.size, w.skip, w.boxtype, ← o.here, ← o.deep, ← field 3 1 o.full)
 
 -- the same box, its offset said otherwise
 moved : {s : List ℕ} {k : Kind} {p q depth : ℕ} {x : Box} → p ≡ q → Opens s k p depth x → Opens s k q depth x
@@ -154,19 +154,19 @@ module _ {s : List ℕ} {at : ℕ} {c : Container} (h : Contained s at c) where
   pub odhe-opens : {a : Opened} → Opening s at 0 a → Opens s Odhe (a.fields + 4) 1 c.odhe
   odhe-opens f = moved (odrm-start h.odrm ∙ rw (odrm-read f)) h.odhe
 
-  pub odhe-read : {a b : Opened} → Opening s at 0 a → Opening s (a.fields + 4) 1 b → b ≡ opened_of c.odhe
+  odhe-read : {a b : Opened} → Opening s at 0 a → Opening s (a.fields + 4) 1 b → b ≡ opened_of c.odhe
   odhe-read f g = g Odhe c.odhe (odhe-opens f)
 
-  pub ohdr-opens : {b : Opened} {n : ℕ} → b ≡ opened_of c.odhe → n ≡ num 1 s (b.fields + 4) → Opens s Ohdr (b.fields + 5 + n) 2 c.ohdr
-  ohdr-opens e l = moved (odhe-start h.odhe ∙ rw (l, e)) h.ohdr
+  pub ohdr-opens : {a b : Opened} {n : ℕ} → Opening s at 0 a → Opening s (a.fields + 4) 1 b → n ≡ num 1 s (b.fields + 4) → Opens s Ohdr (b.fields + 5 + n) 2 c.ohdr
+  ohdr-opens f g l = moved (odhe-start h.odhe ∙ rw (l, odhe-read f g)) h.ohdr
 
-  pub odda-opens : {b : Opened} → b ≡ opened_of c.odhe → Opens s Odda b.end 1 c.odda
-  odda-opens e = moved (rw e) h.odda
+  pub odda-opens : {a b : Opened} → Opening s at 0 a → Opening s (a.fields + 4) 1 b → Opens s Odda b.end 1 c.odda
+  odda-opens f g = moved (rw (odhe-read f g)) h.odda
 
   -- the ContentType's length stands in s
-  pub type-in : {b : Opened} → b ≡ opened_of c.odhe → b.fields + 5 ≤ length s
+  pub type-in : {a b : Opened} → Opening s at 0 a → Opening s (a.fields + 4) 1 b → b.fields + 5 ≤ length s
   unfolding fields_length
-  type-in e = rw e (omega (arith, ends h.odhe, fields-end h.odhe))
+  type-in f g = rw (odhe-read f g) (omega (arith, ends h.odhe, fields-end h.odhe))
 
   pub four : {a b d e : Opened} {n : ℕ} → Opening s at 0 a → Opening s (a.fields + 4) 1 b → n ≡ num 1 s (b.fields + 4)
       → Opening s (b.fields + 5 + n) 2 d → Opening s b.end 1 e
@@ -180,8 +180,7 @@ module _ {s : List ℕ} {at : ℕ} {c : Container} (h : Contained s at c) where
         oddafields = e.fields;
       }) (four_of c)
   four f g l u v =
-      let q = odhe-read f g in
-      rw (l, odrm-read f, q, u Ohdr c.ohdr (ohdr-opens q l), v Odda c.odda (odda-opens q), ← type-length h.odhe)
+      rw (l, odrm-read f, odhe-read f g, u Ohdr c.ohdr (ohdr-opens f g l), v Odda c.odda (odda-opens f g), ← type-length h.odhe)
 
   pub headers-in : {f : Four} → f ≡ four_of c → headers_end s f.ohdrfields ≤ length s
   headers-in e = rw e (headers-end h.ohdr)

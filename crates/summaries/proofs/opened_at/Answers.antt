@@ -1,20 +1,20 @@
 -- What is read at an offset is the box that stands there. Assumes nothing.
 use mathlib.Core.Path.{refl}
 use native.Mathlib.Omega.{arith}
-use Rattle.summaries.proofs.Laws.{head, head-of, flags-in, opened}
+use Rattle.summaries.proofs.Laws.{head, flags-in, opened}
 use Rattle.summaries.proofs.opened_at.Goals as goal
 
 pub unwrap-head-requires : goal.unwrap-head-requires
 unwrap-head-requires c = rw (head c.requires.2 c.read_head.ensures.gives) refl
 
 pub overflow_add-fields : goal.overflow_add-fields
-overflow_add-fields c = omega (arith, flags-in c.requires.2 (head-of c.requires.2 c.read_head.ensures.gives c.unwrap-head.ensures))
+overflow_add-fields c = omega (arith, flags-in c.requires.2 c.read_head.ensures.gives c.unwrap-head.ensures)
 
 pub overflow_add-fields-2 : goal.overflow_add-fields-2
-overflow_add-fields-2 c = omega (arith, flags-in c.requires.2 (head-of c.requires.2 c.read_head.ensures.gives c.unwrap-head.ensures))
+overflow_add-fields-2 c = omega (arith, flags-in c.requires.2 c.read_head.ensures.gives c.unwrap-head.ensures)
 
 pub read-flags-requires-clause-within : goal.read-flags-requires-clause-within
-read-flags-requires-clause-within c = omega (arith, flags-in c.requires.2 (head-of c.requires.2 c.read_head.ensures.gives c.unwrap-head.ensures))
+read-flags-requires-clause-within c = omega (arith, flags-in c.requires.2 c.read_head.ensures.gives c.unwrap-head.ensures)
 
 pub returns : goal.returns
-returns c = λ k x o. opened o _ _ (head-of o c.read_head.ensures.gives c.unwrap-head.ensures) c.read-flags.ensures.value
+returns c = λ k x o. opened o c.read_head.ensures.gives c.unwrap-head.ensures c.read-flags.ensures.value
