@@ -15,7 +15,7 @@ use Rattle.format.specs.declared.Kind.TheVariants.{Odrm, Odhe, Ohdr, Odda}
 use Rattle.format.specs.Boxes.{Box, only, Container}
 use Rattle.format.specs.Judge.{Out, fault, done, read_of}
 use Rattle.format.specs.Report.{rows, no_summary, summary_of, group, containers_in, eight, answer_of}
-use Rattle.format.proofs.Exact.{reported}
+use Rattle.format.proofs.Exact.{few}
 use Rattle.summaries.specs.Contained.{Begun, Listed}
 use Rattle.summaries.proofs.Accepted.{accepted-contained, kept-listed, listed-begun}
 use Rattle.walk.specs.declared.Kept.{Kept}
@@ -111,5 +111,5 @@ pub read-over : {s : List ℕ} {cap : ℕ} {old new : List Row} {r : Reading} �
 read-over {s} {cap} {old} {new} {r} a e = record {
   answer = rw (← e) a.answer;
   rows = λ log f. let g : read_of cap s ≡ done log = rw e f in
-      let p = reported cap s log g in a.rows log g (omega (arith, ap length p.boxes-of, p.allowed.few, e));
+      a.rows log g (omega (arith, few cap s log g, e));
 }

@@ -1,11 +1,11 @@
 -- The array of eight as it is filled: a summary for each container passed, and 0 behind them. Assumes nothing.
-use mathlib.Core.Path.{◌≡◌, sym, ap, ◌∙◌}
+use mathlib.Core.Path.{◌≡◌, sym, ◌∙◌}
 use Prim.Native.Nat.{ℕ, suc, ◌+◌, ◌-◌, ◌≤◌, ◌<◌}
 use native.Mathlib.Numerals.{add-one}
 use native.Mathlib.Omega.{arith}
 use mathlib.Core.List.{List, ◌++◌, map}
 use lib.ListN.{length, get_or, take, set, replicate, length-map, get_or-map}
-use lib.Seq.{length-take-le, take_all, take-suc, append_snoc, set_at}
+use lib.Seq.{length-take-le, take-suc, append_snoc, set_at}
 use Rattle.format.specs.declared.Summary.{Summary}
 use Rattle.format.specs.Boxes.{Container}
 use Rattle.format.specs.Report.{summary_of, no_summary, eight}
@@ -28,9 +28,6 @@ stored i ss d l m =
 abbrev pub Stored : List ℕ → List ℕ → ℕ → List Summary → ℕ → Type 0
 Stored s starts n all i = (cs : List Container) → Listed s starts n cs → all ≡ eight (take i (map summary_of cs))
 
-pub none-stored : (s starts : List ℕ) (n : ℕ) {z : Summary} → z ≡ no_summary → Stored s starts n (replicate 8 z) 0
-none-stored s starts n e = λ cs l. rw e
-
 pub one-stored : {s starts : List ℕ} {n i : ℕ} {all : List Summary} {v : Summary} → n ≤ 8 → i < n
     → ((c : Container) → Contained s (get_or starts i 0) c → v ≡ summary_of c) → Stored s starts n all i → Stored s starts n (set all i v) (i + 1)
 one-stored {i = i} m k e a = λ cs l.
@@ -38,9 +35,3 @@ one-stored {i = i} m k e a = λ cs l.
     let len : length ss ≡ length cs = length-map cs summary_of in
     rw (a cs l, e (get_or cs i no_container) (l.each i k), ← get_or-map summary_of cs i no_container)
     (stored i ss (summary_of no_container) (omega (arith, len, l.count)) (omega (arith, len, l.count)))
-
-pub all-stored : {s starts : List ℕ} {n i : ℕ} {all : List Summary} → n ≤ i → Stored s starts n all i
-    → (cs : List Container) → Listed s starts n cs → all ≡ eight (map summary_of cs)
-all-stored {i = i} k a cs l =
-    let ss : List Summary = map summary_of cs in
-    a cs l ∙ ap eight (take_all i ss (omega (arith, length-map cs summary_of, l.count)))

@@ -141,10 +141,6 @@ unfolding fields_length
 headers-end o =
     omega (arith, ends o, fields-end o, field o 2 14 (omega arith), field o 2 16 (omega arith), field o 2 18 (omega arith))
 
-data-start : {s : List ℕ} {at depth : ℕ} {x : Box} → Opens s Odda at depth x → x.at + x.skip + 12 ≤ length s
-unfolding fields_length
-data-start o = omega (arith, ends o, fields-end o)
-
 -- ---- a container
 
 module _ {s : List ℕ} {at : ℕ} {c : Container} (h : Contained s at c) where
@@ -184,9 +180,6 @@ module _ {s : List ℕ} {at : ℕ} {c : Container} (h : Contained s at c) where
 
   pub headers-in : {f : Four} → f ≡ four_of c → headers_end s f.ohdrfields ≤ length s
   headers-in e = rw e (headers-end h.ohdr)
-
-  pub data-in : {f : Four} → f ≡ four_of c → f.oddafields + 12 ≤ length s
-  data-in e = rw e (data-start h.odda)
 
   pub summary : {f : Four} {g : CommonHeaders} {r : Stretch} → f ≡ four_of c → g ≡ headers_in s f.ohdrfields → ContentIn s f.oddafields r
       → ◌≡◌ {A = Summary} (record {

@@ -7,12 +7,6 @@ use Rattle.summaries.proofs.opened_at.Goals as goal
 pub unwrap-head-requires : goal.unwrap-head-requires
 unwrap-head-requires c = rw (head c.requires.2 c.read_head.ensures.gives) refl
 
-pub overflow_add-fields : goal.overflow_add-fields
-overflow_add-fields c = omega (arith, flags-in c.requires.2 c.read_head.ensures.gives c.unwrap-head.ensures)
-
-pub overflow_add-fields-2 : goal.overflow_add-fields-2
-overflow_add-fields-2 c = omega (arith, flags-in c.requires.2 c.read_head.ensures.gives c.unwrap-head.ensures)
-
 pub read-flags-requires-clause-within : goal.read-flags-requires-clause-within
 read-flags-requires-clause-within c = omega (arith, flags-in c.requires.2 c.read_head.ensures.gives c.unwrap-head.ensures)
 
