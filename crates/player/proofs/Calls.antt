@@ -17,7 +17,7 @@ use Rattle.format.specs.Boxes.{Box, top, boxes}
 use Rattle.format.specs.Judge.{Out, fault, done, read_of}
 use Rattle.format.specs.Report.{row_of, rows, answer_of}
 use Rattle.format.specs.Allowed.{types, count, Filled}
-use Rattle.format.proofs.Exact.{reported}
+use Rattle.format.proofs.Exact.{reported, few}
 use Rattle.format.proofs.Refused.{refused}
 use Rattle.reading.specs.Answer.{ReadOver}
 use Rattle.player.specs.Layout.{words, row_numbers, reading_numbers, answer_numbers, answer_bytes}
@@ -88,7 +88,7 @@ ready answer {s} {old} {lent} {r} m a d k = go (read_of (rows_lent (length answe
         let c : r.boxes ≡ length (take r.boxes lent) = b ∙ sym (ap length t ∙ length-map l row_of) in
         let p = reported cap s l e in
         let some : 1 ≤ length l = rw p.boxes-of (some-box p.tree p.allowed.filled p.allowed.ordered.odrm.0) in
-        let few : length l ≤ cap = rw p.boxes-of p.allowed.few in
+        let most : length l ≤ cap = few cap s l e in
         record {
           log = l;
           read = e;

@@ -12,22 +12,13 @@ use Rattle.format.specs.declared.Reading.{Reading}
 use Rattle.format.specs.Numbers.{number_of}
 use Rattle.format.specs.Judge.{Out, fault, done, read_of}
 use Rattle.format.specs.Report.{row_of, rows, no_row, answer_of}
-use Rattle.format.proofs.Exact.{reported}
+use Rattle.format.proofs.Exact.{few, boxes-few}
 use Rattle.format.proofs.Refused.{refused}
 use Rattle.reading.specs.Answer.{ReadOver}
 use Rattle.rows.specs.declared.Found.{Found}
 use Rattle.rows.specs.Finding.{filled, rows_of, find_of, over, rows_after, ReadRows}
 
 -- ---- what is found
-
--- as many boxes as rows at most
-boxes-few : (cap : ℕ) (s : List ℕ) → (answer_of (read_of cap s)).boxes ≤ cap
-unfolding answer_of
-boxes-few cap s = go (read_of cap s) refl
-  where
-    go : (o : Out) → read_of cap s ≡ o → (answer_of o).boxes ≤ cap
-    go (fault k p) e = omega arith
-    go (done l) e = let p = reported cap s l e in omega (arith, ap length p.boxes-of, p.allowed.few)
 
 -- the lent part of the array, as many rows as may be used
 lent : (n : ℕ) (cap : ℕ) (z : Row) → n ≡ min 256 cap → min 256 (length (take n (replicate 256 z))) ≡ min 256 cap
@@ -59,7 +50,7 @@ found-done {s} {n} cap {z} {r} {part} a e d f = go (read_of (min 256 cap) s) ref
         let v : k ≡ 0 = sym u.number ∙ ap (λ (x : Reading). number_of x.refusal.rule) (sym q) ∙ ap number_of d in
         absurd (omega (arith, u.range))
     go (done log) g =
-        let m : length log ≤ min 256 cap = let p = reported (min 256 cap) s log g in omega (arith, ap length p.boxes-of, p.allowed.few) in
+        let m : length log ≤ min 256 cap = few (min 256 cap) s log g in
         let l : length (rows log) ≡ length log = length-map log row_of in
         let t : part ≡ rows log ++ drop (length log) (take n (replicate 256 z)) = a.rows log (ap (λ (i : ℕ). read_of i s) c ∙ g) in
         let u : part ++ drop n (replicate 256 z) ≡ filled (rows log) =
