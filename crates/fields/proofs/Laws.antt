@@ -1,22 +1,25 @@
 -- The walk's laws: fields say the same cut off as in the bytes after the header, and fields without fault fit. Assumes nothing.
-use mathlib.Core.Path.{◌≡◌, refl}
+use mathlib.Core.Path.{◌≡◌, refl, ap}
 use Prim.Native.Nat.{ℕ, ◌+◌, ◌≤◌}
 use native.Mathlib.Omega.{arith}
+use mathlib.Core.Bool.{Bool, true, false}
 use mathlib.Core.List.{List}
 use lib.ListN.{length, take}
 use lib.Seq.{slice, take-take}
 use lib.Dec.{ltb}
 use borrow.Author.Tests.{ltb-false}
 use Rattle.std.specs.Prelude.{Ok}
-use Rattle.numbers.specs.Choice.{pick, pick-zero, either-false}
+use Rattle.numbers.specs.Choice.{pick, both, pick-zero, either-false}
 use Rattle.numbers.specs.Big.{num}
 use Rattle.numbers.proofs.Laws.{num-take}
 use Rattle.format.specs.declared.Kind.{Kind}
 use Rattle.format.specs.declared.Kind.TheVariants.{Ftyp, Odrm, Odhe, Ohdr, Odda, Mdri, Odtt, Odrb, Udta, Other}
 use Rattle.format.specs.declared.PlaintextLength.{PlaintextLength}
 use Rattle.format.specs.Kinds.{fields_length, kind_number, same_kind}
-use Rattle.format.specs.Judge.{cut, newer, wrong_method, wrong_length, malformed, wrong_data, again}
+use Rattle.format.specs.Fields.{content_id}
+use Rattle.format.specs.Judge.{cut, newer, wrong_method, wrong_length, malformed, wrong_data, among, again}
 use Rattle.format.proofs.Broken.{answered}
+use Rattle.format.proofs.Order.{same_kind_lem}
 use Rattle.fields.specs.Fault.{field_fault, field_verdict}
 
 slice-take : (i j n : ℕ) (b : List ℕ) → j ≤ n → slice i j (take n b) ≡ slice i j b
@@ -56,21 +59,19 @@ fault-fields Udta n m p b e = rw e
 fault-fields Other n m p b e = rw e
 
 -- the ContentID of the fields cut off
-pub again-fields : (k : Kind) (ids : List (List ℕ)) (b : List ℕ) → fields_length k b ≤ length b
-    → again k ids (take (fields_length k b) b) ≡ again k ids b
-unfolding again fields_length same_kind kind_number
-again-fields Ftyp ids b h = refl
-again-fields Odrm ids b h = refl
-again-fields Odhe ids b h = refl
-again-fields Ohdr ids b h =
+pub id-fields : (k : Kind) (b : List ℕ) → same_kind k Ohdr ≡ true → content_id (take (fields_length k b) b) ≡ content_id b
+unfolding fields_length
+id-fields k b e =
     let l : ℕ = 20 + num 2 b 14 + num 2 b 16 + num 2 b 18 in
-    rw (num-take 2 l b 14 (omega arith), slice-take 20 (20 + num 2 b 14) l b (omega arith))
-again-fields Odda ids b h = refl
-again-fields Mdri ids b h = refl
-again-fields Odtt ids b h = refl
-again-fields Odrb ids b h = refl
-again-fields Udta ids b h = refl
-again-fields Other ids b h = refl
+    rw (same_kind_lem k Ohdr e) (rw (num-take 2 l b 14 (omega arith), slice-take 20 (20 + num 2 b 14) l b (omega arith)))
+
+pub again-fields : (k : Kind) (ids : List (List ℕ)) (b : List ℕ) → again k ids (take (fields_length k b) b) ≡ again k ids b
+unfolding again
+again-fields k ids b = go (same_kind k Ohdr) (id-fields k b)
+  where
+    go : {x y : List ℕ} (t : Bool) → (t ≡ true → x ≡ y) → both t (among x ids) ≡ both t (among y ids)
+    go true f = ap (λ (x : List ℕ). among x ids) (f refl)
+    go false f = refl
 
 -- fields without fault are whole
 pub fault-fit : (k : Kind) (m : ℕ) (p : PlaintextLength) (b : List ℕ) → field_fault k m p b ≡ 0 → fields_length k b ≤ length b

@@ -22,16 +22,21 @@ use Rattle.format.proofs.Containers.{Sound, only-odhe, only-ohdr, only-odda}
 use Rattle.format.proofs.Tiling.{each_both, each-only}
 use Rattle.format.proofs.Standing.{file-stands}
 
+-- the bytes after the header, and the fields that they have
+pub body-length : {s : List ℕ} {x : Box} → Stands s x → length (body_in s x) ≡ room x
+body-length {s} {x} t = length-slice (x.at + x.skip) (x.at + x.size) s (omega (arith, t.within.0, t.within.1)) ∙ omega (arith, t.headed)
+
+pub body-fields : {s : List ℕ} {x : Box} → Stands s x → fields_length (kind x) x.fields ≡ fields_length (kind x) (body_in s x)
+body-fields {s} {x} t = ap (fields_length (kind x)) t.fields ∙ fields-take (kind x) (body_in s x)
+
 -- n bytes of the fields from byte k on stand in the file
 fields-stand : (s : List ℕ) (x : Box) (k n : ℕ) → Stands s x → Fielded x → k + n ≤ fields_length (kind x) x.fields
     → bytes_in s (stretch x k n) ≡ slice k (k + n) x.fields
 fields-stand s x k n t f l =
     let b : List ℕ = body_in s x in
     let F : ℕ = fields_length (kind x) b in
-    let lb : length b ≡ room x = length-slice (x.at + x.skip) (x.at + x.size) s (omega (arith, t.within.0, t.within.1)) ∙ omega (arith, t.headed) in
-    let e : fields_length (kind x) x.fields ≡ F = ap (fields_length (kind x)) t.fields ∙ fields-take (kind x) b in
-    let g : F ≤ room x = omega (arith, f.fit) in
-    let h : k + n ≤ F = omega arith in
+    let h : k + n ≤ F = omega (arith, body-fields t) in
+    let g : F ≤ room x = omega (arith, body-fields t, f.fit) in
     let p : x.at + x.skip + k + n ≡ x.at + x.skip + (k + n) = omega arith in
     sym
     (ap (slice k (k + n)) t.fields ∙ ap (drop k) (take-take (k + n) F b h)

@@ -45,10 +45,7 @@ answered-refused {s} {cap} {t} {e} {none} {old} {new} w i z = go (read_of cap s)
         → Answered s cap old (record { refusal = e; boxes = 0; containers = 0; summaries = replicate 8 none; mdri = 0; rights = 0; free = 0; transaction = 0 }) new
     go (fault k p) f u =
         let q : e ≡ refusal k p = err-same (sym i ∙ u.0) in
-        record { answer = rw (f, q, z) refl; rows = λ log g. absurd (apart log (sym f ∙ g)) }
-      where
-        apart : (log : List Box) → fault k p ≡ done log → ⊥
-        apart log a = absurd (cc)
+        record { answer = rw (f, q, z) refl; rows = λ log g. let d : fault k p ≡ done log = sym f ∙ g in absurd (cc) }
     go (done l) f u = absurd (ok-not-err (sym u.1 ∙ i))
 
 -- ---- accepted
@@ -96,14 +93,12 @@ module _ {s : List ℕ} {cap : ℕ} {x : Kept} {old new : List Row} (a : Accepte
       record {
         answer = rw (a.read, o.number, o.tally, f (containers_in a.log) listed, g);
         rows = λ log h k.
-            let q : log ≡ a.log = same-log (sym h ∙ a.read) in
+            let d : done log ≡ done a.log = sym h ∙ a.read in
+            let q : log ≡ a.log = cc in
             let c : x.count ≤ length new = omega (arith, o.number, ap length q, k, m) in
             let z : new ≡ rows a.log ++ drop x.count old = sym (take-append-drop x.count new) ∙ ap (λ (r : List Row). r ++ drop x.count new) (o.rows c) ∙ ap (λ (r : List Row). rows a.log ++ r) a.kept.past in
             rw q (z ∙ rw o.number);
       }
-    where
-      same-log : {p q : List Box} → done p ≡ done q → p ≡ q
-      same-log e = cc
 
 -- ---- with as many rows as are lent, an accepted file's rows fit
 

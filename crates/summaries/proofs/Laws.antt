@@ -4,7 +4,7 @@ use Prim.Native.Nat.{ℕ, ◌+◌, ◌-◌, ◌≤◌}
 use native.Mathlib.Omega.{arith}
 use mathlib.Core.List.{List}
 use lib.ListN.{length, take, drop, length-drop}
-use lib.Seq.{length-slice, length-take-le, take_all}
+use lib.Seq.{length-take-le, take_all}
 use borrow.Author.Tests.{le-ltb}
 use Rattle.std.specs.Prelude.{Result, Ok}
 use Rattle.numbers.specs.Big.{num}
@@ -20,7 +20,8 @@ use Rattle.format.specs.Header.{size_of, header_fault}
 use Rattle.format.specs.Boxes.{Box, kind, room, start, Container}
 use Rattle.format.specs.Report.{summary_of}
 use Rattle.format.specs.Standing.{body_in}
-use Rattle.format.proofs.Headers.{not_short, fields-take}
+use Rattle.format.proofs.Headers.{not_short}
+use Rattle.format.proofs.Strings.{body-length, body-fields}
 use Rattle.boxes.specs.declared.Head.{Head}
 use Rattle.boxes.specs.Head.{head_in}
 use Rattle.summaries.specs.declared.Opened.{Opened}
@@ -39,13 +40,10 @@ module _ {s : List ℕ} {k : Kind} {at depth : ℕ} {x : Box} (o : Opens s k at 
   pub ends : x.at + x.size ≤ length s
   ends = omega (arith, o.stands.within.0, o.stands.within.1)
 
-  body-length : length (body_in s x) ≡ room x
-  body-length = length-slice (x.at + x.skip) (x.at + x.size) s ends ∙ omega (arith, o.stands.headed)
-
   -- the fields are those of the bytes after the header
   same-fields : fields_length k x.fields ≡ fields_length (kind x) (body_in s x)
   same-fields =
-      rw (← o.of) (ap (fields_length (kind x)) o.stands.fields ∙ fields-take (kind x) (body_in s x))
+      rw (← o.of) (body-fields o.stands)
 
   fit : fields_length k x.fields ≤ room x
   fit = rw (← o.of) o.fielded.fit
@@ -57,7 +55,7 @@ module _ {s : List ℕ} {k : Kind} {at depth : ℕ} {x : Box} (o : Opens s k at 
   fields-length : length x.fields ≡ fields_length k x.fields
   fields-length =
       let F : ℕ = fields_length (kind x) (body_in s x) in
-      ap length o.stands.fields ∙ length-take-le F (body_in s x) (omega (arith, same-fields, body-length, fit)) ∙ sym same-fields
+      ap length o.stands.fields ∙ length-take-le F (body_in s x) (omega (arith, same-fields, body-length o.stands, fit)) ∙ sym same-fields
 
   -- where the run starts
   starts : start x ≡ x.at + x.skip + fields_length k x.fields

@@ -43,19 +43,6 @@ chain-tail a b c d e f x =
     (pick-tail d 10 _ _ x (λ z. omega arith)
     (pick-tail e 11 _ _ x (λ z. omega arith) (pick-tail f 12 x 0 x (λ z. omega arith) refl)))))
 
--- where the fields break nothing they fit, and the ContentID is read from the box
-again-tail : (k : Kind) (m : ℕ) (p : PlaintextLength) (b : List ℕ) (l : List (List ℕ))
-    → pick (eqb (field_fault k m p b) 0) (pick (again k l (take (fields_length k b) b)) 13 0) (field_fault k m p b)
-    ≡ pick (eqb (field_fault k m p b) 0) (pick (again k l b) 13 0) (field_fault k m p b)
-again-tail k m p b l = go (eqb (field_fault k m p b) 0) refl
-  where
-    F : ℕ
-    F = field_fault k m p b
-
-    go : (t : Bool) → eqb F 0 ≡ t → pick t (pick (again k l (take (fields_length k b) b)) 13 0) F ≡ pick t (pick (again k l b) 13 0) F
-    go true e = ap (λ (u : Bool). pick u 13 0) (again-fields k l b (fault-fit k m p b (eqb-true F 0 e)))
-    go false e = refl
-
 pub number_is : (cap : ℕ) (q : Spot) (n : Seen) (at : ℕ) (b : List ℕ) (fine : header_fault q.place b ≡ 0) (s : List ℕ) (log : List Box) (y : Kept)
     (out : List Row) → Holds s log y out
     → wrong cap n log (box_at q at b) ≡ number_in cap q.place n (kind_in q.place b) y (body_of q.place b) (ids_in s y.ids y.tally.headers)
@@ -74,8 +61,8 @@ number_is cap q n at b fine s log y out o =
     let e1 : pick (cut k (room x) f) 7 (pick (newer k f) 8 (pick (wrong_method k f) 9 (pick (wrong_length k f) 10 (pick (malformed k f) 11 (pick (wrong_data k (room x) m p f) 12 tail)))))
     ≡ pick (eqb (field_fault k m p B) 0) tail (field_fault k m p B) =
     chain-tail (cut k (room x) f) (newer k f) (wrong_method k f) (wrong_length k f) (malformed k f) (wrong_data k (room x) m p f) tail ∙ ap (λ (i : ℕ). pick (eqb i 0) tail i) (fault-fields k (room x) m p B c.body) in
-    rw (o.number, em, ep, o.names)
-    (ap (λ (i : ℕ). pick (no_row cap n (length log) k) 5 (pick (misplaced q.place n k) 6 i)) (e1 ∙ again-tail k m p B (ids log)))
+    rw (o.number, em, ep, o.names, ← again-fields k (ids log) B)
+    (ap (λ (i : ℕ). pick (no_row cap n (length log) k) 5 (pick (misplaced q.place n k) 6 i)) e1)
 
 -- a box that breaks no number has a row, stands where it may, and its fields fit
 pub record Clean (cap : ℕ) (c : Place) (n : Seen) (rows : ℕ) (k : Kind) (b : List ℕ) : Type 0 where

@@ -5,12 +5,11 @@ use native.Mathlib.Omega.{arith}
 use mathlib.Core.Bool.{Bool, true, false}
 use mathlib.Core.List.{List, [], ◌∷◌, ◌++◌}
 use lib.ListN.{length, take, drop, set}
-use lib.Seq.{slice, slice_empty, length-slice, take-length, take-take, drop-drop, drop-set-lt}
+use lib.Seq.{slice, slice_empty, length-slice, take-length, drop-drop, drop-set-lt}
 use borrow.Author.Tests.{le-leb, le-ltb, lt-ltb, ne_eqb}
 use Rattle.std.specs.Prelude.{replicate, Option, Some, None, Result, Ok, Err}
 use Rattle.numbers.specs.Choice.{pick, pick-by, true-not-false}
 use Rattle.numbers.specs.Big.{num}
-use Rattle.numbers.proofs.Laws.{num-take}
 use Rattle.format.specs.declared.Place.{Place}
 use Rattle.format.specs.declared.Place.TheVariants.{Top, InOdrm, InOdhe, InOhdr, InMdri}
 use Rattle.format.specs.declared.Kind.{Kind}
@@ -36,6 +35,7 @@ use Rattle.format.proofs.Slices.{slice-drop, slice-slice, part_slice}
 use Rattle.boxes.specs.declared.Head.{Head}
 use Rattle.boxes.specs.Head.{head_in}
 use Rattle.boxes.proofs.Laws.{KeptHead, kept-head, refused-head}
+use Rattle.fields.proofs.Laws.{id-fields}
 use Rattle.walk.specs.declared.Kept.{Kept}
 use Rattle.walk.specs.declared.Tally.{Tally}
 use Rattle.walk.specs.Keeping.{tally_of, ids_in, with_box, Holds}
@@ -95,13 +95,6 @@ opens-yes k b e l = rw (e, le-leb _ _ l)
 pub id-fit : (k : Kind) (b : List ℕ) → same_kind k Ohdr ≡ true → fields_length k b ≤ length b → 20 + id_length b ≤ length b
 unfolding fields_length
 id-fit k b e l = let m : fields_length Ohdr b ≤ length b = rw (same_kind_lem k Ohdr e) at l in omega arith
-
-id-fields : (k : Kind) (b : List ℕ) → same_kind k Ohdr ≡ true → content_id (take (fields_length k b) b) ≡ content_id b
-unfolding fields_length
-id-fields k b e =
-    rw (same_kind_lem k Ohdr e)
-    (let l : ℕ = 20 + num 2 b 14 + num 2 b 16 + num 2 b 18 in
-    rw (num-take 2 l b 14 (omega arith), take-take (20 + num 2 b 14) l b (omega arith)))
 
 id-in : (s b : List ℕ) (from to : ℕ) → b ≡ slice from to s → to ≤ length s → 20 + id_length b ≤ length b
     → slice (from + 20) (from + 20 + id_length b) s ≡ content_id b
