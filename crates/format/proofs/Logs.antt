@@ -35,16 +35,26 @@ only-append k (x ∷ xs) ys = go (same_kind (kind x) k) (only-append k xs ys)
     go true e = ap (λ (l : List Box). x ∷ l) e
     go false e = e
 
-pub last-append : (d : Box) (xs ys : List Box) → last_of d (xs ++ ys) ≡ last_of (last_of d xs) ys
+last-append : (d : Box) (xs ys : List Box) → last_of d (xs ++ ys) ≡ last_of (last_of d xs) ys
 last-append d [] ys = refl
 last-append d (x ∷ xs) ys = last-append x xs ys
 
-pub last_snoc : (log : List Box) (x : Box)
-    → last_of no_box (only Ohdr (log ++ (x ∷ []))) ≡ pick (same_kind (kind x) Ohdr) x (last_of no_box (only Ohdr log))
-last_snoc log x =
-    ap (last_of no_box) (only-append Ohdr log (x ∷ [])) ∙ last-append no_box (only Ohdr log) (only Ohdr (x ∷ [])) ∙ go (same_kind (kind x) Ohdr)
+-- of the last box of a kind, and of each, with one box more
+pub last-snoc : {A : Type 0} (f : Box → A) (k : Kind) (log : List Box) (x : Box)
+    → f (last_of no_box (only k (log ++ (x ∷ [])))) ≡ pick (same_kind (kind x) k) (f x) (f (last_of no_box (only k log)))
+last-snoc f k log x =
+    ap (λ (l : List Box). f (last_of no_box l)) (only-append k log (x ∷ []))
+    ∙ ap f (last-append no_box (only k log) (only k (x ∷ []))) ∙ go (same_kind (kind x) k)
   where
-    go : (t : Bool) → last_of (last_of no_box (only Ohdr log)) (pick t (x ∷ []) []) ≡ pick t x (last_of no_box (only Ohdr log))
+    go : (t : Bool) → f (last_of (last_of no_box (only k log)) (pick t (x ∷ []) [])) ≡ pick t (f x) (f (last_of no_box (only k log)))
+    go true = refl
+    go false = refl
+
+pub map-snoc : {A : Type 0} (f : Box → A) (k : Kind) (log : List Box) (x : Box)
+    → map f (only k (log ++ (x ∷ []))) ≡ map f (only k log) ++ pick (same_kind (kind x) k) (f x ∷ []) []
+map-snoc f k log x = ap (map f) (only-append k log (x ∷ [])) ∙ map-append f (only k log) (only k (x ∷ [])) ∙ go (same_kind (kind x) k)
+  where
+    go : (t : Bool) → map f (only k log) ++ map f (pick t (x ∷ []) []) ≡ map f (only k log) ++ pick t (f x ∷ []) []
     go true = refl
     go false = refl
 
@@ -52,11 +62,7 @@ abbrev id_bytes : Box → List ℕ
 id_bytes x = content_id x.fields
 
 pub ids-snoc : (log : List Box) (x : Box) → ids (log ++ (x ∷ [])) ≡ ids log ++ pick (same_kind (kind x) Ohdr) (id_bytes x ∷ []) []
-ids-snoc log x = ap (map id_bytes) (only-append Ohdr log (x ∷ [])) ∙ map-append id_bytes (only Ohdr log) (only Ohdr (x ∷ [])) ∙ go (same_kind (kind x) Ohdr)
-  where
-    go : (t : Bool) → ids log ++ map id_bytes (pick t (x ∷ []) []) ≡ ids log ++ pick t (id_bytes x ∷ []) []
-    go true = refl
-    go false = refl
+ids-snoc log x = map-snoc id_bytes Ohdr log x
 
 -- ---- none of those before
 
@@ -143,7 +149,7 @@ clear-agreed : (cap : ℕ) (log xs : List Box) → Clear cap log xs → Agreed (
 clear-agreed cap log [] c = tt
 clear-agreed cap log (x ∷ xs) c = (
   λ t. (data-held (kind x) (room x) (method (last_ohdr log)) (plaintext (last_ohdr log)) x.fields c.0.lengths-agree t).1,
-  rw (last_snoc log x) at (clear-agreed cap (log ++ (x ∷ [])) xs c.1),
+  rw (last-snoc (λ (y : Box). y) Ohdr log x) at (clear-agreed cap (log ++ (x ∷ [])) xs c.1),
 )
 
 -- the ContentIDs of a list that starts with x
@@ -205,7 +211,7 @@ clear-after cap log (x ∷ xs) l e a f =
         lengths-agree = held-data (kind x) (room x) (method (last_ohdr log)) (plaintext (last_ohdr log)) x.fields t.held a.0;
         fresh = s.0;
       },
-      clear-after cap (log ++ (x ∷ [])) xs (omega arith) e.1 (rw (last_snoc log x) a.1) (rw (ids-snoc log x) s.1),
+      clear-after cap (log ++ (x ∷ [])) xs (omega arith) e.1 (rw (last-snoc (λ (y : Box). y) Ohdr log x) a.1) (rw (ids-snoc log x) s.1),
     )
 
 pub lawful-clear : (cap : ℕ) (xs : List Box) → Lawful cap xs → Clear cap [] xs

@@ -19,11 +19,11 @@ use Rattle.format.specs.declared.Row.{Row}
 use Rattle.format.specs.declared.Stretch.{Stretch}
 use Rattle.format.specs.Kinds.{fields_length, same_kind}
 use Rattle.format.specs.Fields.{method, plaintext, id_length, content_id}
-use Rattle.format.specs.Boxes.{Box, no_box, kind, only}
-use Rattle.format.specs.Judge.{ids, last_of, last_ohdr}
-use Rattle.format.specs.Report.{row_of, rows, is_free, free_total, mdri_at, transaction_after, transaction_at, bytes_in}
+use Rattle.format.specs.Boxes.{Box, kind, only}
+use Rattle.format.specs.Judge.{ids, last_ohdr}
+use Rattle.format.specs.Report.{row_of, rows, is_free, free_total, transaction_after, transaction_at, bytes_in}
 use Rattle.format.proofs.Order.{same_kind_lem}
-use Rattle.format.proofs.Logs.{only-append, last-append, last_snoc, ids-snoc}
+use Rattle.format.proofs.Logs.{only-append, last-snoc, map-snoc, ids-snoc}
 use Rattle.boxes.specs.declared.Head.{Head}
 use Rattle.walk.specs.declared.Kept.{Kept}
 use Rattle.walk.specs.Keeping.{tally_of, free_at, added, with_box, Holds}
@@ -36,15 +36,6 @@ length-snoc k log x = ap length (only-append k log (x ∷ [])) ∙ go (same_kind
     go : (t : Bool) → length (only k log ++ pick t (x ∷ []) []) ≡ pick t (length (only k log) + 1) (length (only k log))
     go true = length-append (only k log) (x ∷ [])
     go false = ap length (append-nil (only k log))
-
-mdri-snoc : (log : List Box) (x : Box) → mdri_at (log ++ (x ∷ [])) ≡ pick (same_kind (kind x) Mdri) x.at (mdri_at log)
-mdri-snoc log x =
-    ap (λ (l : List Box). (last_of no_box l).at) (only-append Mdri log (x ∷ []))
-    ∙ ap (λ (y : Box). y.at) (last-append no_box (only Mdri log) (only Mdri (x ∷ []))) ∙ go (same_kind (kind x) Mdri)
-  where
-    go : (t : Bool) → (last_of (last_of no_box (only Mdri log)) (pick t (x ∷ []) [])).at ≡ pick t x.at (mdri_at log)
-    go true = refl
-    go false = refl
 
 after-append : (n : ℕ) (xs ys : List Box) → transaction_after n (xs ++ ys) ≡ transaction_after (transaction_after n xs) ys
 after-append n [] ys = refl
@@ -72,23 +63,16 @@ unfolding fields_length
 ohdr-num w at k b l e =
     num-take w (fields_length k b) b at (rw (same_kind_lem k Ohdr e) (omega arith))
 
-last-field : {A : Type 0} (f : List ℕ → A) (log : List Box) (x : Box) → f (last_ohdr (log ++ (x ∷ []))) ≡ pick (same_kind (kind x) Ohdr) (f x.fields) (f (last_ohdr log))
-last-field f log x = ap (λ (y : Box). f y.fields) (last_snoc log x) ∙ go (same_kind (kind x) Ohdr)
-  where
-    go : (t : Bool) → f (pick t x (last_of no_box (only Ohdr log))).fields ≡ pick t (f x.fields) (f (last_ohdr log))
-    go true = refl
-    go false = refl
-
 pub tally-add : (log : List Box) (x : Box) (h : Head) (b : List ℕ) → x.size ≡ h.size → x.skip ≡ h.skip → x.type ≡ h.boxtype
     → x.fields ≡ take (fields_length (kind x) b) b → added (tally_of log) x.place (kind x) x.at h b ≡ tally_of (log ++ (x ∷ []))
 unfolding free_at
 tally-add log x h b e1 e2 e3 e4 =
     let m : method (last_ohdr (log ++ (x ∷ []))) ≡ pick (same_kind (kind x) Ohdr) (method b) (method (last_ohdr log)) =
-    last-field method log x ∙ pick-left (same_kind (kind x) Ohdr) _ _ _ (λ e. ap method e4 ∙ ohdr-num 1 4 (kind x) b (omega arith) e) in
+    last-snoc (λ (y : Box). method y.fields) Ohdr log x ∙ pick-left (same_kind (kind x) Ohdr) _ _ _ (λ e. ap method e4 ∙ ohdr-num 1 4 (kind x) b (omega arith) e) in
     let p : plaintext (last_ohdr (log ++ (x ∷ []))) ≡ pick (same_kind (kind x) Ohdr) (plaintext b) (plaintext (last_ohdr log)) =
-    last-field plaintext log x
+    last-snoc (λ (y : Box). plaintext y.fields) Ohdr log x
     ∙ pick-left (same_kind (kind x) Ohdr) _ _ _ (λ e. ap plaintext e4 ∙ ap (λ (n : ℕ). wrap n) (ohdr-num 8 6 (kind x) b (omega arith) e)) in
-    sym (rw (length-snoc Odrm log x, length-snoc Ohdr log x, m, p, mdri-snoc log x, length-snoc Odrb log x, free_snoc log x, transaction-snoc log x, e1, e2, e3))
+    sym (rw (length-snoc Odrm log x, length-snoc Ohdr log x, m, p, last-snoc (λ (y : Box). y.at) Mdri log x, length-snoc Odrb log x, free_snoc log x, transaction-snoc log x, e1, e2, e3))
   where
     wrap : ℕ → PlaintextLength
     wrap n = record { 0 = n }
@@ -112,12 +96,6 @@ rows-add log x count out f l =
     stored-more out count true (row_of x) (λ _. m)
     ∙ ap (λ (r : List Row). r ++ (row_of x ∷ [])) (f (omega arith)) ∙ sym (map-append row_of log (x ∷ []))
 
-starts-snoc : (k : Kind) (log : List Box) (x : Box)
-    → map (λ (y : Box). y.at) (only k (log ++ (x ∷ []))) ≡ map (λ (y : Box). y.at) (only k log) ++ pick (same_kind (kind x) k) (x.at ∷ []) []
-starts-snoc k log x =
-    ap (map (λ (y : Box). y.at)) (only-append k log (x ∷ [])) ∙ map-append (λ (y : Box). y.at) (only k log) (only k (x ∷ []))
-    ∙ ap (λ (l : List ℕ). map (λ (y : Box). y.at) (only k log) ++ l) (map-one (λ (y : Box). y.at) (same_kind (kind x) k) x)
-
 -- ---- all of it
 
 -- what is needed of a box x, with its header h and the bytes b after it
@@ -139,7 +117,7 @@ holds-add s log y out x h b o f =
       number = rw o.number (sym (length-append log (x ∷ [])));
       tally = rw o.tally (tally-add log x h b f.size f.skip f.type f.fields);
       rows = λ l. rows-add log x y.count out o.rows l;
-      starts = stored-more y.starts y.tally.containers (same_kind (kind x) Odrm) x.at f.odrm ∙ rw o.starts (sym (starts-snoc Odrm log x));
+      starts = stored-more y.starts y.tally.containers (same_kind (kind x) Odrm) x.at f.odrm ∙ rw o.starts (sym (map-snoc (λ (y : Box). y.at) Odrm log x));
       names = ap (map (bytes_in s)) (stored-more y.ids y.tally.headers (same_kind (kind x) Ohdr) p f.ohdr)
           ∙ map-append (bytes_in s) (take y.tally.headers y.ids) (pick (same_kind (kind x) Ohdr) (p ∷ []) [])
           ∙ rw (o.names, map-one (bytes_in s) (same_kind (kind x) Ohdr) p)
