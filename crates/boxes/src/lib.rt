@@ -37,30 +37,28 @@ pub struct Head {
     pub boxtype: usize,
 }
 
-// Number 3: a size below its header's length, which sizes 0 and 2 to 7 are too, or an odda in short form, whose header is 8 bytes.
-fn is_wrong_size(size: usize, skip: usize, boxtype: usize) -> bool
-    ensures { result ≡ wrong_size size skip boxtype }
-{
-    size < skip || boxtype == ODDA && skip == 8
-}
+impl Head {
+    // Number 3: a size below its header's length, which sizes 0 and 2 to 7 are too, or an odda in short form, whose header is 8 bytes.
+    fn is_wrong_size(self) -> bool
+        ensures { result ≡ wrong_size self.size self.skip self.boxtype }
+    {
+        self.size < self.skip || self.boxtype == ODDA && self.skip == 8
+    }
 
-// The header whose form is known: 3 for a size that is not allowed, 4 for a box that ends after its parent.
-#[tactic(auto, unfolding(crate::specs::Head::sized_head))]
-fn sized(left: usize, size: usize, skip: usize, boxtype: usize) -> Result<Head, Rule>
-    ensures gives { result ≡ sized_head left size skip boxtype }
-    ensures fits { IfOk result (λ h. (h.skip ≡ skip) × (skip ≤ h.size) × (h.size ≤ left)) }
-{
-    if is_wrong_size(size, skip, boxtype) {
-        return Err(Rule::BadSize);
+    // The header of a run with so many bytes left: 3 for a size that is not allowed, 4 for a box that ends after its parent.
+    #[tactic(auto, unfolding(crate::specs::Head::sized_head))]
+    fn within(self, left: usize) -> Result<Head, Rule>
+        ensures gives { result ≡ sized_head left self.size self.skip self.boxtype }
+        ensures fits { IfOk result (λ h. (h.skip ≡ self.skip) × (self.skip ≤ h.size) × (h.size ≤ left)) }
+    {
+        if self.is_wrong_size() {
+            return Err(Rule::BadSize);
+        }
+        if left < self.size {
+            return Err(Rule::PastParent);
+        }
+        Ok(self)
     }
-    if left < size {
-        return Err(Rule::PastParent);
-    }
-    Ok(Head {
-        size,
-        skip,
-        boxtype,
-    })
 }
 
 // The header at the start of what is left of a run. The only place where size, form and type are decoded.
@@ -76,13 +74,22 @@ pub fn read_head(run: &[u8]) -> Result<Head, Rule>
     let size = numbers::read::<4>(run, 0);
     let boxtype = numbers::read::<4>(run, 4);
     if size != 1 {
-        return sized(left, size, 8, boxtype);
+        let short = Head {
+            size,
+            skip: 8,
+            boxtype,
+        };
+        return short.within(left);
     }
     if left < 16 {
         return Err(Rule::NoHeader);
     }
-    let long = numbers::read::<8>(run, 8);
-    sized(left, long, 16, boxtype)
+    let long = Head {
+        size: numbers::read::<8>(run, 8),
+        skip: 16,
+        boxtype,
+    };
+    long.within(left)
 }
 
 // An odtt and an odrb count in mdri and a udta in odhe; elsewhere they are others.

@@ -54,18 +54,12 @@ pub fn is_agreeing(method: usize, plaintext: PlaintextLength, length: DataLength
     if d == 0 {
         return true;
     }
-    if method == 0 {
-        return d == p || p == 0;
+    match method {
+        0 => d == p || p == 0,
+        1 => 16 <= d && (d - 16) % 16 == 0 && (d - 16) / 16 == p / 16 + 1,
+        2 => 16 <= d && d - 16 == p,
+        _ => false,
     }
-    if d < 16 {
-        return false;
-    }
-    let blocks = d - 16;
-    if method == 1 {
-        let wanted = p / 16 + 1;
-        return blocks % 16 == 0 && blocks / 16 == wanted;
-    }
-    method == 2 && blocks == p
 }
 
 // ftyp: 7 where it is cut or its brands are not whole, 8 where its major brand is not odcf.

@@ -133,7 +133,7 @@ pub struct Summary {
 
 // What reading a file answers. Where it is refused, all but the refusal is 0. mdri and transaction are offsets, or 0 for none, as the listing and
 // the answer for C have them. The first `containers` summaries count: the answer is a value of fixed size.
-#[derive(Clone, Copy)]
+#[derive(Clone, Copy, Default)]
 pub struct Reading {
     pub refusal: Refusal,
     pub boxes: usize,

@@ -6,7 +6,7 @@ ghost use Rattle.format.specs.Judge.{read_of};
 ghost use Rattle.format.specs.Report.{answer_of};
 ghost use Rattle.reading.specs.Answer.{Answered, ReadOver};
 
-use format::{Reading, Refusal, Row, Summary};
+use format::{Reading, Refusal, Row};
 
 // The answer with so many rows at most. Of an accepted file the rows stand in the lent ones, if there is room for them.
 fn read_with(file: &[u8], cap: usize, rows: &mut [Row]) -> Reading
@@ -16,13 +16,7 @@ fn read_with(file: &[u8], cap: usize, rows: &mut [Row]) -> Reading
     match walk::walk_file(file, cap, rows) {
         Err(refusal) => Reading {
             refusal,
-            boxes: 0,
-            containers: 0,
-            summaries: [Summary::default(); 8],
-            mdri: 0,
-            rights: 0,
-            free: 0,
-            transaction: 0,
+            ..Reading::default()
         },
         Ok(kept) => {
             let tally = kept.tally;

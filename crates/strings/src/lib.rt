@@ -28,10 +28,7 @@ pub fn is_same(x: &[u8], y: &[u8]) -> bool
 pub fn is_token(x: u8) -> bool
     ensures { result ≡ token x }
 {
-    match x {
-        33 | 35..=39 | 42 | 43 | 45 | 46 | 48..=57 | 65..=90 | 94..=122 | 124 | 126 => true,
-        _ => false,
-    }
+    matches!(x, 33 | 35..=39 | 42 | 43 | 45 | 46 | 48..=57 | 65..=90 | 94..=122 | 124 | 126)
 }
 
 // An upper-case ASCII letter as its lower-case one, every other byte as itself.

@@ -34,7 +34,7 @@ pub struct Tally {
 
 // What is kept of the boxes that were read: how many, the tally, where each odrm starts, and where each ContentID lies. Of the arrays the
 // first ones count, as many as the tally says: a walk uses fixed memory.
-#[derive(Drop)]
+#[derive(Drop, Default)]
 pub struct Kept {
     pub count: usize,
     pub tally: Tally,
@@ -186,13 +186,12 @@ fn one(
         spot,
         ..
     } = scope;
-    let place = at;
-    let h = boxes::read_head(&file[at..end]).map_err(|rule| Refusal { rule, place })?;
+    let h = boxes::read_head(&file[at..end]).map_err(|rule| Refusal { rule, place: at })?;
     let kind = boxes::kind_of(spot.place, h.boxtype);
     let start = at + h.skip;
     let next = at + h.size;
     let b = &file[start..next];
-    judge(scope, kept, n, kind, b).map_err(|rule| Refusal { rule, place })?;
+    judge(scope, kept, n, kind, b).map_err(|rule| Refusal { rule, place: at })?;
     let row = Row {
         offset: at,
         size: h.size,
@@ -235,12 +234,7 @@ pub fn walk_file(file: &[u8], cap: usize, rows: &mut [Row]) -> Result<Kept, Refu
         depth: 0,
         own: 0,
     };
-    let mut kept = Kept {
-        count: 0,
-        tally: Tally::default(),
-        starts: [0; 8],
-        ids: [Stretch::default(); 8],
-    };
+    let mut kept = Kept::default();
     let top = Scope {
         file,
         cap,
