@@ -74,14 +74,14 @@ judge-fault rows c q n at log (bad j s) k p g e =
     (omega (arith, pos_of_ne-zero g.2), omega (arith, header-most c s, g.1))
 judge-fault rows c q n at log (leaf h b r) k p g e =
     let x : Box = box_of q at h (length b) b in
-    unless-fault (wrong rows n log x) at k p _ (wrong-most rows n log x) e
+    unless-fault (wrong rows n log x) _ k p _ (wrong-most rows n log x) e
     (judge-fault rows c q (note n (kind x)) (at + (length h + length b)) (log ++ (x ∷ [])) r k p g.2)
 judge-fault rows c q n at log (node h f i r) k p g e =
     let m : ℕ = length f + length (encode i) in
     let x : Box = box_of q at h m f in
     let o : Out = judge rows (into q x) nothing (at + (length h + length f)) (log ++ (x ∷ [])) i in
     let then : List Box → Out = λ l. judge rows q (note n (kind x)) (at + (length h + m)) l r in
-    unless-fault (wrong rows n log x) at k p (and_then o then) (wrong-most rows n log x) e
+    unless-fault (wrong rows n log x) _ k p (and_then o then) (wrong-most rows n log x) e
     (λ e. then-fault o then k p
     (judge-fault rows (inside (kind_at c h)) (into q x) nothing (at + (length h + length f)) (log ++ (x ∷ [])) i k p g.2)
     (λ l. judge-fault rows c q (note n (kind x)) (at + (length h + m)) l r k p g.3) e)
