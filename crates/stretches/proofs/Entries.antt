@@ -6,8 +6,9 @@ use native.Mathlib.Omega.{arith}
 use mathlib.Core.Bool.{Bool, true, false}
 use mathlib.Core.List.{List, [], ◌∷◌, ◌++◌, append_assoc}
 use lib.ListN.{length, drop, length-append}
-use lib.Seq.{slice, take_at, drop_at, drop-append-add}
+use lib.Seq.{slice, take_at, drop-append-add}
 use borrow.Author.Tests.{ne_eqb}
+use Rattle.format.proofs.Slices.{slice-mid}
 use Rattle.numbers.specs.Choice.{pick}
 use Rattle.std.specs.Prelude.{Option, Some, None}
 use Rattle.strings.specs.Characters.{same_name}
@@ -83,11 +84,6 @@ pub record FirstOf (field name : List ℕ) (es : List Entry) (a n : ℕ) : Type 
   pub named : same_name entry.name name ≡ true
   pub value : slice a (a + n) field ≡ entry.value
 
-slice-mid : (p v t : List ℕ) (a n : ℕ) → length p ≡ a → length v ≡ n → slice a (a + n) (p ++ (v ++ t)) ≡ v
-slice-mid p v t a n e f =
-    let l : length (p ++ v) ≡ a + n = length-append p v ∙ omega arith in
-    ap (λ (s : List ℕ). slice a (a + n) s) (sym (append_assoc p v t)) ∙ ap (drop a) (take_at (p ++ v) t (a + n) l) ∙ drop_at p v a e
-
 entry-mid : (pre : List ℕ) (x : Entry) (t : List ℕ) → pre ++ (entry_bytes x ++ t) ≡ (pre ++ (x.name ++ (58 ∷ []))) ++ (x.value ++ (0 ∷ t))
 entry-mid pre x t = ap (λ (l : List ℕ). pre ++ l) (entry-split x t) ∙ simp append_assoc
 
@@ -115,7 +111,7 @@ first_of name (x ∷ es) pre at a n l e =
           all = refl;
           none = tt;
           named = h;
-          value = rw (entry-mid pre x (field_of es)) (slice-mid (pre ++ (x.name ++ (58 ∷ []))) x.value (0 ∷ field_of es) a n k v);
+          value = rw (entry-mid pre x (field_of es)) (slice-mid (pre ++ (x.name ++ (58 ∷ []))) x.value (0 ∷ field_of es) a (a + n) k (omega (arith, v)));
         }
     go false h f i =
         let r = i f in

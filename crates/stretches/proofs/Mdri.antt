@@ -1,5 +1,5 @@
 -- The mdri of an accepted file: its boxes lie end to end behind its header, and every rights object is one of them. Assumes nothing.
-use mathlib.Core.Path.{◌≡◌, refl, sym, ap, ◌∙◌, subst}
+use mathlib.Core.Path.{◌≡◌, refl, ap, ◌∙◌, subst}
 use mathlib.Core.Logic.{◌⊎◌, inl, inr}
 use Prim.Native.Nat.{ℕ, ◌+◌, ◌≤◌}
 use native.Mathlib.Omega.{arith}
@@ -8,7 +8,7 @@ use mathlib.Core.List.{List, [], ◌∷◌, ◌++◌, append-nil}
 use lib.ListN.{length, get_or}
 use lib.Dec.{eqb}
 use borrow.Author.Tests.{eqb-true, eqb-false}
-use Rattle.numbers.specs.Choice.{pick, true-not-false}
+use Rattle.numbers.specs.Choice.{pick}
 use Rattle.strings.specs.Headers.{Each}
 use Rattle.format.specs.declared.Place.{Place}
 use Rattle.format.specs.declared.Place.TheVariants.{Top, InMdri}
@@ -22,6 +22,7 @@ use Rattle.format.specs.Boxes.{Box, top, kind, box_of, into, boxes, only}
 use Rattle.format.specs.Allowed.{types, count, IsOther, Ordered, Filled, Fielded}
 use Rattle.format.specs.Judge.{done, read_of}
 use Rattle.format.specs.Standing.{Stands}
+use Rattle.format.proofs.Saying.{clash}
 use Rattle.format.proofs.Headers.{at-least-eight}
 use Rattle.format.proofs.Logs.{only-append}
 use Rattle.format.proofs.Order.{Named, ftyp, odrm, odhe, ohdr, odda, mdri, odtt, odrb, udta, other, named}
@@ -29,9 +30,6 @@ use Rattle.format.proofs.Tiling.{each_left, each_right, each_map, leaf-holds}
 use Rattle.format.proofs.Exact.{reported}
 
 -- ---- kinds
-
-clash : {A : Type 0} {b : Bool} → b ≡ false → b ≡ true → A
-clash f t = absurd (true-not-false (sym f ∙ t))
 
 abbrev NoMdri : List ℕ → Type 0
 NoMdri ts = Each (λ t. t ≡ MDRI → ⊥) ts

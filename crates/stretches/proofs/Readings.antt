@@ -1,9 +1,9 @@
 -- What a reading's answer tells: the number of a refusal, and the containers of an accepted file. Assumes nothing.
 use mathlib.Core.Path.{◌≡◌, refl, sym, ap, ◌∙◌, subst}
-use Prim.Native.Nat.{ℕ, zero, suc, ◌+◌, ◌-◌, ◌≤◌, ◌<◌}
+use Prim.Native.Nat.{ℕ, ◌+◌, ◌-◌, ◌≤◌, ◌<◌}
 use native.Mathlib.Omega.{arith}
 use mathlib.Core.Bool.{Bool, true, false}
-use mathlib.Core.List.{List, [], ◌∷◌, map}
+use mathlib.Core.List.{List, map}
 use lib.ListN.{length, take, get_or, replicate, length-map, length-append, get_or-append}
 use lib.Dec.{ltb}
 use borrow.Author.Tests.{ltb-true, lt-ltb, le-ltb}
@@ -13,7 +13,7 @@ use Rattle.std.specs.Option.{ok_or, option_copied}
 use Rattle.std.specs.Slice.{IsItemAt}
 use Rattle.std.specs.Borrow.{Bor}
 use Rattle.numbers.specs.Choice.{pick}
-use Rattle.strings.specs.Headers.{Each, Textual}
+use Rattle.strings.specs.Headers.{Textual}
 use Rattle.format.specs.declared.Rule.{Rule}
 use Rattle.format.specs.declared.Rule.TheVariants.{Done, NoContainer}
 use Rattle.format.specs.declared.Kind.{Kind}
@@ -27,6 +27,7 @@ use Rattle.format.specs.Allowed.{Says}
 use Rattle.format.specs.Judge.{Out, fault, done, read_of}
 use Rattle.format.specs.Report.{no_summary, summary_of, containers_in, accepted_as, answer_of}
 use Rattle.format.specs.Standing.{HeaderStands}
+use Rattle.format.proofs.Tiling.{each_at}
 use Rattle.format.proofs.Exact.{reported}
 use Rattle.format.proofs.Refused.{refused}
 use Rattle.summaries.specs.Contained.{Contained, no_container}
@@ -90,11 +91,6 @@ accepted s {r} g = go (read_of 256 s) refl g.0
 
 -- ---- the containers of an accepted file
 
-each_at : (P : Container → Type 0) (cs : List Container) → Each P cs → (i : ℕ) → i < length cs → P (get_or cs i no_container)
-each_at P [] a i l = absurd (omega arith)
-each_at P (c ∷ cs) a zero l = a.0
-each_at P (c ∷ cs) a (suc i) l = each_at P cs a.1 i (omega arith)
-
 -- the container of an index
 pub record Counted (s : List ℕ) (i : ℕ) : Type 0 where
   pub log : List Box
@@ -121,8 +117,8 @@ counted s i z = go (read_of 256 s) refl z
           log = log;
           read = e;
           counted = m;
-          contained = each_at (λ c. Contained s c.odrm.at c) cs (accepted-contained 256 s log e) i m;
-          stands = each_at (HeaderStands s) cs p.headers i m;
+          contained = each_at (λ c. Contained s c.odrm.at c) no_container cs (accepted-contained 256 s log e) i m;
+          stands = each_at (HeaderStands s) no_container cs p.headers i m;
         }
 
 pub log-of : {s : List ℕ} {i : ℕ} (c : Counted s i) → log_of (read_of 256 s) ≡ c.log
