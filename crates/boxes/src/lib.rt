@@ -10,7 +10,7 @@ ghost use Rattle.boxes.specs.Head.{wrong_size, sized_head, head_in};
 
 use format::{Kind, Place, Rule, Seen};
 
-// The four letters of each name, as one number: so a row reports a type, and types are open.
+// The four letters of each name, as one number: so a row reports a type, and types are open. The language makes no constant from letters.
 const FTYP: usize = 0x66747970;
 
 const ODRM: usize = 0x6f64726d;
@@ -168,7 +168,7 @@ pub fn noted(n: Seen, kind: Kind) -> Seen
     }
 }
 
-// Number 5: no row is left, or this is a ninth odrm.
+// Number 5: no row is left, or this is a ninth odrm. Here and below place, what a run has had and kind come apart, as the walk has them.
 #[tactic(auto, unfolding(format::specs::Judge::no_row, format::specs::Kinds::same_kind, format::specs::Kinds::kind_number))]
 pub fn has_no_row(cap: usize, n: Seen, rows: usize, kind: Kind) -> bool
     ensures { result ≡ no_row cap n rows kind }
@@ -236,7 +236,7 @@ fn is_misplaced_in_mdri(n: Seen, kind: Kind) -> bool
     }
 }
 
-// Number 6 at a box: it stands in a wrong place or is repeated.
+// Number 6 at a box: it stands in a wrong place or is repeated. Each place has a rule of its own.
 #[tactic(auto, unfolding(format::specs::Judge::misplaced))]
 pub fn is_misplaced(place: Place, n: Seen, kind: Kind) -> bool
     ensures { result ≡ misplaced place n kind }

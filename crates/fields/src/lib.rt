@@ -13,10 +13,10 @@ ghost use Rattle.fields.specs.Fault.{field_verdict};
 
 use format::{DataLength, Kind, PlaintextLength, Rule};
 
-// The letters of odcf, as one number.
+// The letters of odcf, as one number: the language makes no constant from letters.
 const ODCF: usize = 0x6f646366;
 
-// Whether a method takes a padding (document 01, Boxes): 0 takes 0, 1 (CBC) takes 1, 2 (CTR) takes 0.
+// Whether a method takes a padding (document 01, Boxes): 0 takes 0, 1 (CBC) takes 1, 2 (CTR) takes 0. Both are bytes of the file, of any value.
 #[tactic(auto, unfolding(format::specs::Judge::takes))]
 fn takes_padding(method: usize, padding: usize) -> bool
     ensures { result ≡ takes method padding }
@@ -104,7 +104,8 @@ pub fn check_odhe(b: &[u8]) -> Result<(), Rule>
     Ok(())
 }
 
-// ohdr: 7 where its strings run past the box, then 8, 9 for method or padding, 10 for the ContentID's length, 11 for textual headers.
+// ohdr: 7 where its strings run past the box, then 8, 9 for method or padding, 10 for the ContentID's length, 11 for textual headers. Who reads
+// of an ohdr reads the fields that it needs, at their offsets in document 01.
 pub fn check_ohdr(b: &[u8]) -> Result<(), Rule>
     ensures { (m : ℕ) (p : PlaintextLength) → result ≡ field_verdict Kind.Ohdr m p b.now }
 {
@@ -158,7 +159,8 @@ pub fn check_odtt(b: &[u8]) -> Result<(), Rule>
     check_version(b)
 }
 
-// The first of the rules 7 to 12 that the bytes after a header break (document 01, Numbers given back).
+// The first of the rules 7 to 12 that the bytes after a header break (document 01, Numbers given back). A kind has a checker of its own;
+// method and plaintext length go to that of odda alone.
 #[tactic(auto, using(crate::proofs::Tests::verdict_of_mdri, crate::proofs::Tests::verdict_of_udta, crate::proofs::Tests::verdict_of_other))]
 pub fn check(b: &[u8], kind: Kind, method: usize, plaintext: PlaintextLength) -> Result<(), Rule>
     ensures { result ≡ field_verdict kind method plaintext b.now }

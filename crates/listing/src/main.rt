@@ -31,7 +31,7 @@ fn print(input: &[u8], out: &mut [u8]) -> Option<usize>
     list(input, out)
 }
 
-// One byte more than the longest file that is listed shows that the input is longer, and no further byte is read.
+// One byte more than the longest file that is listed shows that the input is longer, and no further byte is read. Fixed rooms: no heap.
 fn main(rt: HostRuntime) -> io::Result<()> {
     let mut space = [0u8; 65537];
     let n = input::read_full(&mut rt.stdin(), &mut space)?;

@@ -1,4 +1,5 @@
-// Big-endian numbers of so many bytes, read from a slice and written into one.
+// Big-endian numbers of so many bytes, read from a slice and written into one, byte by byte: the library's from_be_bytes has no three bytes. A
+// slice comes with an offset, since offsets are what a reading reports.
 #![tactic(auto)]
 
 ghost use Rattle.std.specs.Prelude.{◌≡◌, ◌+◌, ◌≤◌, length};

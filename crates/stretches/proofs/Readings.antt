@@ -62,16 +62,19 @@ pub record Accepted (s : List ℕ) (r : Reading) : Type 0 where
   pub answer : r ≡ accepted_as log
 
 module _ (s : List ℕ) {r : Reading} (a : r ≡ answer_of (read_of 256 s)) where
-  -- a reading that is not done has the number of its rule
-  pub stopped : (r.refusal.rule ≡ Done → ⊥) → Refuses (verdict s) r.refusal.rule
+  -- a reading that is not done has the number of its rule, whatever its boxes would be asked
+  pub stopped : (r.refusal.rule ≡ Done → ⊥) → (f : List Box → ℕ) → Refuses (refusal_of (read_of 256 s) f) r.refusal.rule
   unfolding answer_of refusal_of
-  stopped k = go (read_of 256 s) refl
+  stopped k f = go (read_of 256 s) refl
     where
-      go : (o : Out) → read_of 256 s ≡ o → Refuses (refusal_of o (λ log. 0)) r.refusal.rule
+      go : (o : Out) → read_of 256 s ≡ o → Refuses (refusal_of o f) r.refusal.rule
       go (fault n p) e =
           let f = refused 256 s n p e in
           (sym f.number ∙ ap (λ (x : Reading). number_of x.refusal.rule) (sym a), λ z. omega (arith, f.range))
       go (done log) e = absurd (k (ap (λ (x : Reading). x.refusal.rule) (a ∙ ap answer_of e)))
+
+  pub not_accepted : (r.refusal.rule ≡ Done → ⊥) → Refuses (verdict s) r.refusal.rule
+  not_accepted k = stopped k (λ log. 0)
 
   pub went_on : r.refusal.rule ≡ Done → verdict s ≡ 0
   unfolding answer_of refusal_of

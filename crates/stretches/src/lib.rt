@@ -15,7 +15,7 @@ ghost use Rattle.stretches.specs.Rights.{rights_in, odrb_at, rights_data_refusal
 use format::{Reading, Rule, Stretch, Summary};
 
 // The reading of a file, or the rule that refuses it.
-#[tactic(auto, using(crate::proofs::Readings::stopped, crate::proofs::Readings::went_on))]
+#[tactic(auto, using(crate::proofs::Readings::not_accepted, crate::proofs::Readings::went_on))]
 fn accepted(file: &[u8]) -> Result<Reading, Rule>
     ensures { Gives (verdict file.now) (answer_of (read_of 256 file.now)) result }
 {
@@ -96,7 +96,7 @@ pub fn textual_header_refusal(file: &[u8], container: usize, name: &[u8]) -> Rul
         .unwrap_or(Rule::Done)
 }
 
-// The rights object of an index, sought along the boxes of the mdri at an offset.
+// The rights object of an index, sought along the boxes of the mdri at an offset: each says where the next one starts.
 #[tactic(auto, using(crate::proofs::Seeking::seek, crate::proofs::Seeking::past_odrb, crate::proofs::Seeking::past_other))]
 fn rights_at(file: &[u8], mdri: usize, index: usize) -> Stretch
     requires { RightsAt file.now mdri index }

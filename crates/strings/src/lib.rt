@@ -74,7 +74,7 @@ pub fn is_textual(s: &[u8]) -> bool
     s.iter().fold(Part::Start, |p, x| step(p, *x)) == Part::Start
 }
 
-// The first index that holds `byte`, or the length where there is none, as the definition `index` says it.
+// The first index that holds `byte`, or the length where there is none, as the definition `index` says it; in textual headers it is there.
 fn index_of(s: &[u8], byte: u8) -> usize
     ensures { result ≡ index byte s.now }
 {

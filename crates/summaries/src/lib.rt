@@ -17,7 +17,7 @@ struct Opened {
     end: usize,
 }
 
-// The four boxes of a container with its ContentType, and where the fields of ohdr and of odda start.
+// The four boxes of a container with its ContentType, and where the fields of ohdr and of odda start, which a summary does not say.
 #[derive(Drop)]
 struct Four {
     odrm: Full,
@@ -40,7 +40,7 @@ struct CommonHeaders {
     headers: Stretch,
 }
 
-// The full box at an offset, its header decoded once.
+// The full box at an offset, its header decoded once. The offset is what a row reports, so no part of the slice comes in its place.
 fn opened_at(s: &[u8], at: usize, depth: usize) -> Opened
     requires { FullAt s.now at depth }
     ensures { Opening s.now at depth result }
@@ -125,7 +125,7 @@ fn content_at(s: &[u8], at: usize) -> Stretch
     }
 }
 
-// The summary of the container whose odrm stands at an offset.
+// The summary of the container whose odrm stands at an offset, field by field: three values make it.
 pub fn summary_at(s: &[u8], at: usize) -> Summary
     requires { ContainerAt s.now at }
     ensures { (c : Container) → Contained s.now at c → result ≡ summary_of c }

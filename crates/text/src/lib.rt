@@ -1,4 +1,5 @@
-// The listing of a reading, as text, piece by piece.
+// The listing of a reading, as text, piece by piece: after a `write!` the check does not prove that the text was written. No heap is used, so
+// the text has room for the longest listing.
 #![tactic(auto)]
 
 ghost use Rattle.std.specs.Prelude.{◌+◌, ◌*◌, ◌≤◌, length, IsSome};

@@ -16,7 +16,7 @@ const UNUSED: Row = Row {
     boxtype: 7,
 };
 
-// Digit i of a word, and 0 where the word has none.
+// Digit i of a word, the low four bits of any byte, and 0 where the word has none: `parse` takes digits alone.
 fn digit(word: &str, i: usize) -> usize
     ensures { result ≤ 15 }
 {
@@ -27,7 +27,7 @@ fn number(word: &str) -> usize {
     digit(word, 0) * 100 + digit(word, 1) * 10 + digit(word, 2)
 }
 
-// What is printed of an accepted file: its totals, and a line for each row.
+// What is printed of an accepted file: its totals, and a line for each row. It goes to the output at once, and so not through `text`.
 fn answer(rt: &impl Print, r: &Reading, rows: &[Row]) -> io::Result<()> {
     print!(rt;
         " boxes={} containers={} mutable={}",

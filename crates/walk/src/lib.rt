@@ -13,7 +13,7 @@ ghost use Rattle.walk.specs.Walking.{number_in, Named, Addable, Ready, Walked, R
 use boxes::Head;
 use format::{Kind, Place, PlaintextLength, Refusal, Row, Rule, Seen, Spot, Stretch};
 
-// The types of free space, as numbers.
+// The types of free space, as numbers: the language makes no constant from letters.
 const FREE: usize = 0x66726565;
 
 const SKIP: usize = 0x736b6970;
@@ -33,7 +33,8 @@ pub struct Tally {
 }
 
 // What is kept of the boxes that were read: how many, the tally, where each odrm starts, and where each ContentID lies. Of the arrays the
-// first ones count, as many as the tally says: a walk uses fixed memory.
+// first ones count, as many as the tally says: a walk uses fixed memory. What is always true of it speaks of the
+// file and the run too: `Ready` says it, and no invariant.
 #[derive(Drop, Default)]
 pub struct Kept {
     pub count: usize,
@@ -100,7 +101,7 @@ impl Kept {
         }
     }
 
-    // Whether a ContentID is one of those kept.
+    // Whether a ContentID is one of those kept: a `for`, since the check does not close what `any` gives here.
     fn knows(&self, file: &[u8], id: &[u8]) -> bool
         requires { (self.now.tally.headers ≤ 8) × Named file.now self.now.ids self.now.tally.headers }
         ensures { result ≡ among id.now (ids_in file.now self.now.ids self.now.tally.headers) }
@@ -120,10 +121,7 @@ impl Kept {
         requires fit { fields_length kind b.now ≤ length b.now }
         ensures { result ≡ again kind (ids_in file.now self.now.ids self.now.tally.headers) b.now }
     {
-        match kind {
-            Kind::Ohdr => self.knows(file, &b[20..20 + numbers::read::<2>(b, 14)]),
-            _ => false,
-        }
+        matches!(kind, Kind::Ohdr) && self.knows(file, &b[20..20 + numbers::read::<2>(b, 14)])
     }
 }
 

@@ -1,3 +1,4 @@
+-- The seek stays in the mdri; what two answers ask of an odrb is one law, a line each. Assumes nothing.
 use native.Mathlib.Omega.{arith}
 use Rattle.stretches.proofs.Seeking.{mdri_inside, mdri_read, seek_read, odrb_fits, is_sought}
 use Rattle.stretches.proofs.rights_at.Goals as goal

@@ -1,4 +1,4 @@
--- Each box is where the one before it says. Assumes nothing.
+-- Each box is where the one before it says; what three sums ask is one law, a line each. Assumes nothing.
 use native.Mathlib.Omega.{arith}
 use Rattle.format.specs.declared.Kind.TheVariants.{Odhe, Ohdr, Odda}
 use Rattle.summaries.proofs.Laws.{ends, odhe-opens, ohdr-opens, odda-opens, type-in, four}
