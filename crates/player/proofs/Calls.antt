@@ -32,7 +32,7 @@ lent-rows answer old e = omega (arith, e)
 
 -- ---- refused
 
-stays : (o : Out) (answer : List ℕ) → ((answer_of o).refusal.rule ≡ Done → ⊥) → answer_after o answer ≡ answer
+pub stays : (o : Out) (answer : List ℕ) → ((answer_of o).refusal.rule ≡ Done → ⊥) → answer_after o answer ≡ answer
 unfolding answer_after answer_of
 stays (fault k p) answer f = refl
 stays (done l) answer f = absurd (f refl)
