@@ -176,40 +176,25 @@ whole-cut : (k : Kind) (n : ℕ) (f : List ℕ) → fields_length k f ≤ n → 
 unfolding cut
 whole-cut k n f l r = false-either _ _ (le-ltb n _ l) r
 
+-- a box that holds no content
+tested : (k : Kind) (n : ℕ) (f : List ℕ) → fields_length k f ≤ n → ragged k n ≡ false → newer k f ≡ false → wrong_method k f ≡ false
+    → wrong_length k f ≡ false → malformed k f ≡ false → same_kind k Odda ≡ false → Tested k n f
+tested k n f l r v m w h o = record {
+  whole = whole-cut k n f l r;
+  old = v;
+  method = m;
+  lengths = w;
+  headers = h;
+  held = clash o;
+}
+
 pub says-tested : (k : Kind) (n : ℕ) (f : List ℕ) → fields_length k f ≤ n → Says k n f → Tested k n f
 unfolding ragged newer wrong_method wrong_length malformed same_kind kind_number
-says-tested Ftyp n f l s = record {
-  whole = whole-cut Ftyp n f l (number_same _ _ s.0);
-  old = number_same _ _ s.1;
-  method = refl;
-  lengths = refl;
-  headers = refl;
-  held = λ e. absurd (true-not-false e);
-}
-says-tested Odrm n f l s = record {
-  whole = whole-cut Odrm n f l refl;
-  old = number_same _ _ s;
-  method = refl;
-  lengths = refl;
-  headers = refl;
-  held = λ e. absurd (true-not-false e);
-}
-says-tested Odhe n f l s = record {
-  whole = whole-cut Odhe n f l refl;
-  old = number_same _ _ s.0;
-  method = refl;
-  lengths = false-either _ _ (not-outside 255 _ s.1) refl;
-  headers = refl;
-  held = λ e. absurd (true-not-false e);
-}
-says-tested Ohdr n f l s = record {
-  whole = whole-cut Ohdr n f l refl;
-  old = number_same _ _ s.0;
-  method = rw (true-takes _ _ s.1);
-  lengths = not-outside 256 _ s.2;
-  headers = rw (textual-good _ s.3);
-  held = λ e. absurd (true-not-false e);
-}
+says-tested Ftyp n f l s = tested Ftyp n f l (number_same _ _ s.0) (number_same _ _ s.1) refl refl refl refl
+says-tested Odrm n f l s = tested Odrm n f l refl (number_same _ _ s) refl refl refl refl
+says-tested Odhe n f l s = tested Odhe n f l refl (number_same _ _ s.0) refl (false-either _ _ (not-outside 255 _ s.1) refl) refl refl
+says-tested Ohdr n f l s =
+    tested Ohdr n f l refl (number_same _ _ s.0) (rw (true-takes _ _ s.1)) (not-outside 256 _ s.2) (rw (textual-good _ s.3)) refl
 says-tested Odda n f l s = record {
   whole = whole-cut Odda n f l refl;
   old = number_same _ _ s.0;
@@ -218,43 +203,8 @@ says-tested Odda n f l s = record {
   headers = refl;
   held = λ _. s.1;
 }
-says-tested Mdri n f l s = record {
-  whole = whole-cut Mdri n f l refl;
-  old = refl;
-  method = refl;
-  lengths = refl;
-  headers = refl;
-  held = λ e. absurd (true-not-false e);
-}
-says-tested Odtt n f l s = record {
-  whole = whole-cut Odtt n f l (number_same _ _ s.1);
-  old = number_same _ _ s.0;
-  method = refl;
-  lengths = refl;
-  headers = refl;
-  held = λ e. absurd (true-not-false e);
-}
-says-tested Odrb n f l s = record {
-  whole = whole-cut Odrb n f l refl;
-  old = number_same _ _ s;
-  method = refl;
-  lengths = refl;
-  headers = refl;
-  held = λ e. absurd (true-not-false e);
-}
-says-tested Udta n f l s = record {
-  whole = whole-cut Udta n f l refl;
-  old = refl;
-  method = refl;
-  lengths = refl;
-  headers = refl;
-  held = λ e. absurd (true-not-false e);
-}
-says-tested Other n f l s = record {
-  whole = whole-cut Other n f l refl;
-  old = refl;
-  method = refl;
-  lengths = refl;
-  headers = refl;
-  held = λ e. absurd (true-not-false e);
-}
+says-tested Mdri n f l s = tested Mdri n f l refl refl refl refl refl refl
+says-tested Odtt n f l s = tested Odtt n f l (number_same _ _ s.1) (number_same _ _ s.0) refl refl refl refl
+says-tested Odrb n f l s = tested Odrb n f l refl (number_same _ _ s) refl refl refl refl
+says-tested Udta n f l s = tested Udta n f l refl refl refl refl refl refl
+says-tested Other n f l s = tested Other n f l refl refl refl refl refl refl
