@@ -10,6 +10,7 @@ use Rattle.format.specs.declared.Row.{Row}
 use Rattle.format.specs.declared.Rule.TheVariants.{Done}
 use Rattle.format.specs.declared.Reading.{Reading}
 use Rattle.format.specs.Numbers.{number_of}
+use Rattle.format.specs.Boxes.{Box}
 use Rattle.format.specs.Judge.{Out, fault, done, read_of}
 use Rattle.format.specs.Report.{row_of, rows, no_row, answer_of}
 use Rattle.format.proofs.Exact.{few, boxes-few}
@@ -60,6 +61,61 @@ found-done {s} {n} cap {z} {r} {part} a e d f = go (read_of (min 256 cap) s) ref
         rw (q ∙ ap answer_of g, u) refl
 
 -- ---- what is stored
+
+-- what is known of an accepted file: its log, and its rows in front of the scratch rows
+record Ready (s : List ℕ) (ys : List Row) (r : Reading) (part : List Row) : Type 0 where
+  log : List Box
+  read : read_of (min 256 (length ys)) s ≡ done log
+  answer : r ≡ answer_of (done log)
+  counted : take r.boxes part ≡ rows log
+
+module _ {s : List ℕ} {n : ℕ} (ys : List Row) (z : Row) {r : Reading} {part : List Row} (a : ReadOver s (take n (replicate 256 z)) r part) (e : n ≡ min 256 (length ys)) where
+  c : min 256 (length (take n (replicate 256 z))) ≡ min 256 (length ys)
+  c = lent n (length ys) z e
+
+  q : r ≡ answer_of (read_of (min 256 (length ys)) s)
+  q = a.answer ∙ ap (λ (i : ℕ). answer_of (read_of i s)) c
+
+  pub stored-refused : (r.refusal.rule ≡ Done → ⊥) → ReadRows s ys r ys
+  unfolding answer_of rows_after
+  stored-refused d = record { answer = q; rows = go (read_of (min 256 (length ys)) s) q }
+    where
+      go : (o : Out) → r ≡ answer_of o → ys ≡ rows_after o ys
+      go (fault k p) g = refl
+      go (done log) g = absurd (d (ap (λ (x : Reading). x.refusal.rule) g))
+
+  ready : r.refusal.rule ≡ Done → Ready s ys r part
+  unfolding answer_of
+  ready d = go (read_of (min 256 (length ys)) s) refl
+    where
+      go : (o : Out) → read_of (min 256 (length ys)) s ≡ o → Ready s ys r part
+      go (fault k p) g =
+          let u = refused (min 256 (length ys)) s k p g in
+          let v : k ≡ 0 = sym u.number ∙ ap (λ (x : Reading). number_of x.refusal.rule) (sym q) ∙ ap number_of d in
+          absurd (omega (arith, u.range))
+      go (done log) g =
+          let t : part ≡ rows log ++ drop (length log) (take n (replicate 256 z)) = a.rows log (ap (λ (i : ℕ). read_of i s) c ∙ g) in
+          let h : r ≡ answer_of (done log) = q ∙ ap answer_of g in
+          record {
+            log = log;
+            read = g;
+            answer = h;
+            counted = rw (ap (λ (x : Reading). x.boxes) h, t) (take_at (rows log) _ (length log) (length-map log row_of));
+          }
+
+  pub counted : r.refusal.rule ≡ Done → r.boxes ≡ length (take r.boxes part)
+  unfolding answer_of
+  counted d =
+      let x = ready d in
+      rw x.counted (ap (λ (y : Reading). y.boxes) x.answer ∙ sym (length-map x.log row_of))
+
+  pub stored-done : {zs : List Row} → r.refusal.rule ≡ Done → zs ≡ take r.boxes part ++ drop (length (take r.boxes part)) ys → ReadRows s ys r zs
+  unfolding rows_after
+  stored-done d h =
+      let x = ready d in
+      record { answer = q; rows = h ∙ rw (x.counted, x.read, length-map x.log row_of) refl }
+
+-- ---- what find_rows yields, stored, is what read stores
 
 stored-out : (o : Out) (ys : List Row) → over (answer_of o).boxes (rows_of o) ys ≡ rows_after o ys
 unfolding answer_of rows_of rows_after

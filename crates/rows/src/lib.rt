@@ -1,9 +1,9 @@
-// Reading into a lent slice of row structs: the core yields the answer and the rows by value, and one thin function stores the rows.
+// Reading into rows as structs: by value, or into a lent slice, where one thin function stores them once the file is accepted.
 #![tactic(auto)]
 
-ghost use Rattle.std.specs.Prelude.{◌≡◌, ◌≤◌, min, length};
+ghost use Rattle.std.specs.Prelude.{◌≡◌, ◌≤◌, ◌++◌, min, length, drop};
 ghost use Rattle.format.specs.Judge.{read_of};
-ghost use Rattle.rows.specs.Finding.{find_of, over, ReadRows};
+ghost use Rattle.rows.specs.Finding.{find_of, ReadRows};
 
 use format::{Reading, Row, Rule};
 
@@ -27,19 +27,22 @@ pub fn find_rows(file: &[u8], cap: usize) -> Found
 }
 
 // The rows counted, in the place of the first ones of the lent slice.
-fn store(rows: &mut [Row], found: &Found)
-    requires { (found.now.reading.boxes ≤ length rows.old) × (found.now.reading.boxes ≤ 256) }
-    ensures { rows.new ≡ over found.now.reading.boxes found.now.rows rows.old }
+fn store(rows: &mut [Row], counted: &[Row])
+    requires { length counted.now ≤ length rows.old }
+    ensures { rows.new ≡ counted.now ++ drop (length counted.now) rows.old }
 {
-    let count = found.reading.boxes;
-    rows[..count].copy_from_slice(&found.rows[..count]);
+    rows[..counted.len()].copy_from_slice(counted);
 }
 
 // Reads a file with as many rows as are lent, and puts the rows there once the file is accepted.
 pub fn read(file: &[u8], rows: &mut [Row]) -> Reading
     ensures { ReadRows file.now rows.old result rows.new }
 {
-    let found = find_rows(file, rows.len());
-    store(rows, &found);
-    found.reading
+    let mut scratch = [Row::default(); 256];
+    let lent = &mut scratch[..rows.len().min(256)];
+    let reading = reading::read_over(file, lent);
+    if reading.refusal.rule == Rule::Done {
+        store(rows, &lent[..reading.boxes]);
+    }
+    reading
 }
