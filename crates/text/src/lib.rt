@@ -19,7 +19,8 @@ pub const LONGEST: usize = 19627;
 // A text with room for the longest listing.
 type Text = ArrayString<LONGEST>;
 
-// Writes a word and a number.
+// Writes a word and a number. Copied in, so that the bytes of each word are known where it is written.
+#[inline(always)]
 fn put_field(text: &mut Text, word: &str, n: usize)
     requires { HasRoom text.old (length word.now + 20) }
     ensures { Adds text.old text.new (field word.now n) (length word.now + 20) }
