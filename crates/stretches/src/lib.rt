@@ -14,17 +14,17 @@ ghost use Rattle.stretches.specs.Rights.{rights_in, odrb_at, rights_data_refusal
 
 use format::{Reading, Rule, Stretch, Summary};
 
-// The reading of a file, or the rule that refuses it.
+// Whether the reading of a file is accepted, or the rule that refuses it.
 #[tactic(auto, using(crate::proofs::Readings::not_accepted, crate::proofs::Readings::went_on))]
-fn accepted(file: &[u8]) -> Result<Reading, Rule>
-    ensures { Gives (verdict file.now) (answer_of (read_of 256 file.now)) result }
+fn accepted(_file: &[u8], reading: &Reading) -> Result<(), Rule>
+    requires { reading.now ≡ answer_of (read_of 256 _file.now) }
+    ensures { Gives (verdict _file.now) tt result }
 {
-    let reading = reading::read_file(file);
     let verdict = reading.refusal.rule;
     let Rule::Done = verdict else {
         return Err(verdict);
     };
-    Ok(reading)
+    Ok(())
 }
 
 // The summary of a container: reading's refusal, then 21.
@@ -33,7 +33,8 @@ fn summary_at(file: &[u8], container: usize) -> Result<Summary, Rule>
     ensures gives { Gives (content_refusal file.now container) (summary_in file.now container) result }
     ensures headers { IfOk result (λ x. HeadersIn file.now x.headers) }
 {
-    let reading = accepted(file)?;
+    let reading = reading::read_file(file);
+    accepted(file, &reading)?;
     let summaries = &reading.summaries[..reading.containers];
     summaries.get(container).copied().ok_or(Rule::NoContainer)
 }
@@ -128,7 +129,9 @@ fn rights_object(file: &[u8], index: usize) -> Result<Stretch, Rule>
     ensures gives { Gives (rights_data_refusal file.now index) (rights_in (odrb_at (log_of (read_of 256 file.now)) index)) result }
     ensures inside { IfOk result (Inside file.now) }
 {
-    let Reading { mdri, rights, .. } = accepted(file)?;
+    let answer = reading::read_file(file);
+    accepted(file, &answer)?;
+    let Reading { mdri, rights, .. } = answer;
     if mdri == 0 {
         return Err(Rule::NoMdri);
     }
