@@ -35,7 +35,7 @@ pub struct Tally {
 // What is kept of the boxes that were read: how many, the tally, where each odrm starts, and where each ContentID lies. Of the arrays the
 // first ones count, as many as the tally says: a walk uses fixed memory. What is always true of it speaks of the
 // file and the run too: `Ready` says it, and no invariant.
-#[derive(Drop, Default)]
+#[derive(Clone, Copy, Default)]
 pub struct Kept {
     pub count: usize,
     pub tally: Tally,
