@@ -3,9 +3,9 @@ use mathlib.Core.Path.{◌≡◌, refl, sym, ap, ◌∙◌, subst}
 use Prim.Native.Nat.{ℕ, ◌+◌, ◌-◌, ◌≤◌, ◌<◌}
 use native.Mathlib.Omega.{arith}
 use mathlib.Core.Bool.{Bool, true, false}
-use mathlib.Core.List.{List, map}
+use mathlib.Core.List.{List, [], ◌∷◌, ◌++◌, map}
 use lib.ListN.{length, take, get_or, replicate, length-map, length-append, get_or-append}
-use lib.Dec.{ltb}
+use lib.Dec.{ltb, eqb}
 use borrow.Author.Tests.{ltb-true, lt-ltb, le-ltb}
 use Rattle.std.proofs.lemmas.List.{get_or-map, get_or-take, length-take-le}
 use Rattle.std.specs.Prelude.{Option, Some, None, Result, Ok, Err, IfOk, IsErrAnd}
@@ -20,10 +20,12 @@ use Rattle.format.specs.declared.Kind.{Kind}
 use Rattle.format.specs.declared.Reading.{Reading}
 use Rattle.format.specs.declared.Summary.{Summary}
 use Rattle.format.specs.Numbers.{number_of}
-use Rattle.format.specs.Kinds.{fields_length}
+use Rattle.format.specs.Kinds.{ODRM, fields_length}
+use Rattle.format.specs.Header.{type_of}
+use Rattle.format.specs.Tree.{Run, end, bad, leaf, node, encode}
 use Rattle.format.specs.Fields.{textual_headers, data_length}
-use Rattle.format.specs.Boxes.{Box, kind, room, Container}
-use Rattle.format.specs.Allowed.{Says}
+use Rattle.format.specs.Boxes.{Box, kind, room, Container, containers}
+use Rattle.format.specs.Allowed.{types, count, Says}
 use Rattle.format.specs.Judge.{Out, fault, done, read_of}
 use Rattle.format.specs.Report.{no_summary, summary_of, containers_in, accepted_as, answer_of}
 use Rattle.format.specs.Standing.{HeaderStands}
@@ -93,6 +95,17 @@ accepted s {r} g = go (read_of 256 s) refl g.0
     go (done log) e z = record { log = log; read = e; answer = g.1 ∙ ap answer_of e }
 
 -- ---- the containers of an accepted file
+
+-- at most eight: as many as odrm boxes at the top
+pub few-containers : (at : ℕ) (t : Run) → length (containers at t) ≤ count ODRM (types t)
+few-containers at end = omega arith
+few-containers at (bad k s) = omega arith
+few-containers at (leaf h b r) = omega (arith, few-containers (at + (length h + length b)) r)
+few-containers at (node h f k r) = go _ _ (eqb (type_of h) ODRM) (few-containers (at + (length h + (length f + length (encode k)))) r)
+  where
+    go : (c : Container) (cs : List Container) (b : Bool) → length cs ≤ count ODRM (types r) → length (pick b (c ∷ []) [] ++ cs) ≤ pick b 1 0 + count ODRM (types r)
+    go c cs true l = omega arith
+    go c cs false l = omega arith
 
 -- the container of an index
 pub record Counted (s : List ℕ) (i : ℕ) : Type 0 where
