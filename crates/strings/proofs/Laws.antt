@@ -1,14 +1,14 @@
 -- Stretches of bytes that test the same are the same; a field is well formed just if it is the bytes of good entries, and these
 -- are the only ones. Assumes nothing.
 use mathlib.Core.Path.{◌≡◌, refl, sym, ap, ap₂, ◌∙◌}
-use Prim.Native.Nat.{ℕ, ◌≤◌}
+use Prim.Native.Nat.{ℕ, suc, ◌≤◌, ◌<◌}
 use native.Mathlib.Omega.{arith}
 use mathlib.Core.Bool.{Bool, true, false}
 use mathlib.Core.List.{List, [], ◌∷◌, ◌++◌, append_assoc}
-use lib.ListN.{length}
+use lib.ListN.{length, get_or}
 use lib.Dec.{eqb}
 use borrow.Author.Tests.{eqb-true, eqb-false, eq-eqb, ne_eqb}
-use Rattle.numbers.specs.Choice.{pick, both_true, pick-by, true-not-false}
+use Rattle.numbers.specs.Choice.{pick, both, both_true, pick-by, true-not-false}
 use Rattle.strings.specs.Same.{same}
 use Rattle.strings.specs.Characters.{token}
 use Rattle.strings.specs.Headers.{Each, Entry, GoodEntry, entry_bytes, field_of, Textual, next, after, is_start, textual}
@@ -33,6 +33,21 @@ same_refl (x ∷ xs) = rw (eq-eqb x x refl) (same_refl xs)
 
 pub same_false : (xs ys : List ℕ) → same xs ys ≡ false → xs ≡ ys → ⊥
 same_false xs ys e p = true-not-false (sym e ∙ ap (same xs) (sym p) ∙ same_refl xs)
+
+abbrev pub Differ : List ℕ → List ℕ → Type 0
+Differ xs ys = (k : ℕ) × (k < length xs) × (get_or xs k 0 ≡ get_or ys k 0 → ⊥)
+
+-- stretches of one length that are not the same have other bytes at an index
+pub bytes_differ : (xs ys : List ℕ) → same xs ys ≡ false → length xs ≡ length ys → Differ xs ys
+unfolding same
+bytes_differ [] [] f l = absurd (true-not-false (sym f))
+bytes_differ [] (y ∷ ys) f l = absurd (omega arith)
+bytes_differ (x ∷ xs) [] f l = absurd (omega arith)
+bytes_differ (x ∷ xs) (y ∷ ys) f l = go (eqb x y) refl f (λ g. bytes_differ xs ys g (omega arith))
+  where
+    go : (t : Bool) → eqb x y ≡ t → both t (same xs ys) ≡ false → (same xs ys ≡ false → Differ xs ys) → Differ (x ∷ xs) (y ∷ ys)
+    go true e g h = let r = h g in (suc r.0, omega (arith, r.1), r.2)
+    go false e g h = (0, omega arith, eqb-false x y e)
 
 -- ---- token characters
 
