@@ -1,5 +1,5 @@
 -- What field_fault and field_verdict say of each kind: the tests that the kind has, in number order. Assumes nothing.
-use mathlib.Core.Path.{◌≡◌}
+use mathlib.Core.Path.{◌≡◌, ap}
 use Prim.Native.Nat.{ℕ, ◌+◌, ◌-◌, ◌%◌, ◌≤◌}
 use native.Mathlib.Omega.{arith}
 use mathlib.Core.Bool.{Bool}
@@ -13,6 +13,7 @@ use Rattle.numbers.specs.Read.{Read}
 use Rattle.strings.specs.Headers.{textual}
 use Rattle.format.specs.declared.Kind.TheVariants.{Ftyp, Odrm, Odrb, Odhe, Ohdr, Odda, Mdri, Odtt, Udta, Other}
 use Rattle.format.specs.declared.PlaintextLength.{PlaintextLength}
+use Rattle.format.specs.Numbers.{unless_broken}
 use Rattle.format.specs.Kinds.{ODCF, fields_length, kind_number, same_kind}
 use Rattle.format.specs.Judge.{ragged, cut, newer, takes, outside, wrong_method, wrong_length, malformed, agrees, wrong_data}
 use Rattle.format.specs.Fields.{textual_headers, data_length}
@@ -72,13 +73,13 @@ unfolding field_fault fields_length cut ragged newer wrong_method wrong_length m
 fault_of_other m p b = grind arith
 
 pub verdict_of_mdri : (m : ℕ) (p : PlaintextLength) (b : List ℕ) → field_verdict Mdri m p b ≡ Ok tt
-unfolding field_verdict field_fault fields_length cut ragged newer wrong_method wrong_length malformed wrong_data same_kind kind_number
-verdict_of_mdri m p b = grind arith
+unfolding field_verdict
+verdict_of_mdri m p b = ap (λ (n : ℕ). unless_broken n tt) (fault_of_mdri m p b)
 
 pub verdict_of_udta : (m : ℕ) (p : PlaintextLength) (b : List ℕ) → field_verdict Udta m p b ≡ Ok tt
-unfolding field_verdict field_fault fields_length cut ragged newer wrong_method wrong_length malformed wrong_data same_kind kind_number
-verdict_of_udta m p b = grind arith
+unfolding field_verdict
+verdict_of_udta m p b = ap (λ (n : ℕ). unless_broken n tt) (fault_of_udta m p b)
 
 pub verdict_of_other : (m : ℕ) (p : PlaintextLength) (b : List ℕ) → field_verdict Other m p b ≡ Ok tt
-unfolding field_verdict field_fault fields_length cut ragged newer wrong_method wrong_length malformed wrong_data same_kind kind_number
-verdict_of_other m p b = grind arith
+unfolding field_verdict
+verdict_of_other m p b = ap (λ (n : ℕ). unless_broken n tt) (fault_of_other m p b)

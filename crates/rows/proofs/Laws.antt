@@ -25,95 +25,86 @@ use Rattle.rows.specs.Finding.{filled, rows_of, find_of, over, rows_after, ReadR
 lent : (n : ℕ) (cap : ℕ) (z : Row) → n ≡ min 256 cap → min 256 (length (take n (replicate 256 z))) ≡ min 256 cap
 lent n cap z e = omega (arith, e, length-take-le n (replicate 256 z) (omega (arith, e, length-replicate 256 z)))
 
+-- what is known of an accepted file: its log, and its rows in front of the other lent ones
+record Ready (s : List ℕ) (n cap : ℕ) (z : Row) (r : Reading) (part : List Row) : Type 0 where
+  log : List Box
+  read : read_of (min 256 cap) s ≡ done log
+  answer : r ≡ answer_of (done log)
+  rows : part ≡ rows log ++ drop (length log) (take n (replicate 256 z))
+
+module _ {s : List ℕ} {n : ℕ} (cap : ℕ) (z : Row) {r : Reading} {part : List Row} (a : ReadOver s (take n (replicate 256 z)) r part) (e : n ≡ min 256 cap) where
+  told : r ≡ answer_of (read_of (min 256 cap) s)
+  told = a.answer ∙ ap (λ (i : ℕ). answer_of (read_of i s)) (lent n cap z e)
+
+  ready : r.refusal.rule ≡ Done → Ready s n cap z r part
+  unfolding answer_of
+  ready d = go (read_of (min 256 cap) s) refl
+    where
+      go : (o : Out) → read_of (min 256 cap) s ≡ o → Ready s n cap z r part
+      go (fault k p) g =
+          let u = refused (min 256 cap) s k p g in
+          let v : k ≡ 0 = sym u.number ∙ ap (λ (x : Reading). number_of x.refusal.rule) (sym told) ∙ ap number_of d in
+          absurd (omega (arith, u.range))
+      go (done log) g = record {
+        log = log;
+        read = g;
+        answer = told ∙ ap answer_of g;
+        rows = a.rows log (ap (λ (i : ℕ). read_of i s) (lent n cap z e) ∙ g);
+      }
+
 pub found-refused : {s : List ℕ} {n : ℕ} (cap : ℕ) (z : Row) {y : Row} {r : Reading} {part : List Row} → ReadOver s (take n (replicate 256 z)) r part → n ≡ min 256 cap
     → (r.refusal.rule ≡ Done → ⊥) → y ≡ no_row → record { reading = r; rows = replicate 256 y } ≡ find_of (read_of (min 256 cap) s)
 unfolding find_of rows_of answer_of
-found-refused {s} {n} cap z {y} {r} a e d f = go (read_of (min 256 cap) s) (a.answer ∙ ap (λ (i : ℕ). answer_of (read_of i s)) (lent n cap z e))
+found-refused {s} {n} cap z {y} {r} a e d f = go (read_of (min 256 cap) s) (told cap z a e)
   where
     go : (o : Out) → r ≡ answer_of o → record { reading = r; rows = replicate 256 y } ≡ find_of o
     go (fault k p) q = rw (q, f) refl
     go (done log) q = absurd (d (ap (λ (x : Reading). x.refusal.rule) q))
 
+-- an accepted file's rows in front of rows that are 0
+filling : (log : List Box) (n : ℕ) {z : Row} {part : List Row} → part ≡ rows log ++ drop (length log) (take n (replicate 256 z)) → length log ≤ n → n ≤ 256
+    → z ≡ no_row → part ++ drop n (replicate 256 z) ≡ filled (rows log)
+filling log n {z} p m e f =
+    rw (p, take-replicate n 256 z e, drop-replicate (length log) n z, drop-replicate n 256 z, length-map log row_of, f)
+    (append_assoc (rows log) _ _ ∙ rw (replicate-append-replicate (n - length log) (256 - n) no_row)
+    (ap (λ (i : ℕ). rows log ++ replicate i no_row) (omega (arith, m, e))))
+
 pub found-done : {s : List ℕ} {n : ℕ} (cap : ℕ) {z : Row} {r : Reading} {part : List Row} → ReadOver s (take n (replicate 256 z)) r part → n ≡ min 256 cap
     → r.refusal.rule ≡ Done → z ≡ no_row → record { reading = r; rows = part ++ drop n (replicate 256 z) } ≡ find_of (read_of (min 256 cap) s)
-unfolding find_of rows_of answer_of
-found-done {s} {n} cap {z} {r} {part} a e d f = go (read_of (min 256 cap) s) refl
-  where
-    c : min 256 (length (take n (replicate 256 z))) ≡ min 256 cap
-    c = lent n cap z e
-
-    q : r ≡ answer_of (read_of (min 256 cap) s)
-    q = a.answer ∙ ap (λ (i : ℕ). answer_of (read_of i s)) c
-
-    go : (o : Out) → read_of (min 256 cap) s ≡ o → record { reading = r; rows = part ++ drop n (replicate 256 z) } ≡ find_of o
-    go (fault k p) g =
-        let u = refused (min 256 cap) s k p g in
-        let v : k ≡ 0 = sym u.number ∙ ap (λ (x : Reading). number_of x.refusal.rule) (sym q) ∙ ap number_of d in
-        absurd (omega (arith, u.range))
-    go (done log) g =
-        let m : length log ≤ min 256 cap = few (min 256 cap) s log g in
-        let l : length (rows log) ≡ length log = length-map log row_of in
-        let t : part ≡ rows log ++ drop (length log) (take n (replicate 256 z)) = a.rows log (ap (λ (i : ℕ). read_of i s) c ∙ g) in
-        let u : part ++ drop n (replicate 256 z) ≡ filled (rows log) =
-        rw (t, take-replicate n 256 z (omega (arith, e)), drop-replicate (length log) n z, drop-replicate n 256 z, l, f)
-        (append_assoc (rows log) _ _ ∙ rw (replicate-append-replicate (n - length log) (256 - n) no_row)
-        (ap (λ (i : ℕ). rows log ++ replicate i no_row) (omega (arith, m, e)))) in
-        rw (q ∙ ap answer_of g, u) refl
+unfolding find_of rows_of
+found-done {s} {n} cap {z} {r} {part} a e d f =
+    let x = ready cap z a e d in
+    let u = filling x.log n x.rows (omega (arith, e, few (min 256 cap) s x.log x.read)) (omega (arith, e)) f in
+    let F : Reading → List Row → Found = λ y xs. record { reading = y; rows = xs } in
+    ap (λ (y : Reading). F y (part ++ drop n (replicate 256 z))) x.answer ∙ ap (F (answer_of (done x.log))) u ∙ sym (ap find_of x.read)
 
 -- ---- what is stored
 
--- what is known of an accepted file: its log, and its rows in front of the scratch rows
-record Ready (s : List ℕ) (ys : List Row) (r : Reading) (part : List Row) : Type 0 where
-  log : List Box
-  read : read_of (min 256 (length ys)) s ≡ done log
-  answer : r ≡ answer_of (done log)
-  counted : take r.boxes part ≡ rows log
-
 module _ {s : List ℕ} {n : ℕ} (ys : List Row) (z : Row) {r : Reading} {part : List Row} (a : ReadOver s (take n (replicate 256 z)) r part) (e : n ≡ min 256 (length ys)) where
-  c : min 256 (length (take n (replicate 256 z))) ≡ min 256 (length ys)
-  c = lent n (length ys) z e
-
-  q : r ≡ answer_of (read_of (min 256 (length ys)) s)
-  q = a.answer ∙ ap (λ (i : ℕ). answer_of (read_of i s)) c
-
   pub stored-refused : (r.refusal.rule ≡ Done → ⊥) → ReadRows s ys r ys
   unfolding answer_of rows_after
-  stored-refused d = record { answer = q; rows = go (read_of (min 256 (length ys)) s) q }
+  stored-refused d = record { answer = told (length ys) z a e; rows = go (read_of (min 256 (length ys)) s) (told (length ys) z a e) }
     where
       go : (o : Out) → r ≡ answer_of o → ys ≡ rows_after o ys
       go (fault k p) g = refl
       go (done log) g = absurd (d (ap (λ (x : Reading). x.refusal.rule) g))
 
-  ready : r.refusal.rule ≡ Done → Ready s ys r part
+  -- the rows counted are the file's
+  first : (x : Ready s n (length ys) z r part) → take r.boxes part ≡ rows x.log
   unfolding answer_of
-  ready d = go (read_of (min 256 (length ys)) s) refl
-    where
-      go : (o : Out) → read_of (min 256 (length ys)) s ≡ o → Ready s ys r part
-      go (fault k p) g =
-          let u = refused (min 256 (length ys)) s k p g in
-          let v : k ≡ 0 = sym u.number ∙ ap (λ (x : Reading). number_of x.refusal.rule) (sym q) ∙ ap number_of d in
-          absurd (omega (arith, u.range))
-      go (done log) g =
-          let t : part ≡ rows log ++ drop (length log) (take n (replicate 256 z)) = a.rows log (ap (λ (i : ℕ). read_of i s) c ∙ g) in
-          let h : r ≡ answer_of (done log) = q ∙ ap answer_of g in
-          record {
-            log = log;
-            read = g;
-            answer = h;
-            counted = rw (ap (λ (x : Reading). x.boxes) h, t) (take_at (rows log) _ (length log) (length-map log row_of));
-          }
+  first x = rw (ap (λ (y : Reading). y.boxes) x.answer, x.rows) (take_at (rows x.log) _ (length x.log) (length-map x.log row_of))
 
   pub counted : r.refusal.rule ≡ Done → r.boxes ≡ length (take r.boxes part)
   unfolding answer_of
   counted d =
-      let x = ready d in
-      rw x.counted (ap (λ (y : Reading). y.boxes) x.answer ∙ sym (length-map x.log row_of))
+      let x = ready (length ys) z a e d in
+      rw (first x) (ap (λ (y : Reading). y.boxes) x.answer ∙ sym (length-map x.log row_of))
 
   pub stored-done : {zs : List Row} → r.refusal.rule ≡ Done → zs ≡ take r.boxes part ++ drop (length (take r.boxes part)) ys → ReadRows s ys r zs
   unfolding rows_after
   stored-done d h =
-      let x = ready d in
-      record { answer = q; rows = h ∙ rw (x.counted, x.read, length-map x.log row_of) refl }
+      let x = ready (length ys) z a e d in
+      record { answer = told (length ys) z a e; rows = h ∙ rw (first x, x.read, length-map x.log row_of) refl }
 
 -- ---- what find_rows yields, stored, is what read stores
 

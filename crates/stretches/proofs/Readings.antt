@@ -96,7 +96,7 @@ accepted s {r} g = go (read_of 256 s) refl g.0
 
 -- ---- the containers of an accepted file
 
--- at most eight: as many as odrm boxes at the top
+-- no more than odrm boxes at the top, of which an accepted file has eight at most
 pub few-containers : (at : ℕ) (t : Run) → length (containers at t) ≤ count ODRM (types t)
 few-containers at end = omega arith
 few-containers at (bad k s) = omega arith

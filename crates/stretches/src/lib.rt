@@ -14,7 +14,7 @@ ghost use Rattle.stretches.specs.Rights.{rights_in, odrb_at, rights_data_refusal
 
 use format::{Reading, Rule, Stretch, Summary};
 
-// Whether the reading of a file is accepted, or the rule that refuses it.
+// Whether the reading of a file is accepted, or the rule that refuses it. The reading stays where it is, and the file is for the clauses.
 #[tactic(auto, using(crate::proofs::Readings::not_accepted, crate::proofs::Readings::went_on))]
 fn accepted(_file: &[u8], reading: &Reading) -> Result<(), Rule>
     requires { reading.now ≡ answer_of (read_of 256 _file.now) }

@@ -34,10 +34,11 @@ same_refl (x ∷ xs) = rw (eq-eqb x x refl) (same_refl xs)
 pub same_false : (xs ys : List ℕ) → same xs ys ≡ false → xs ≡ ys → ⊥
 same_false xs ys e p = true-not-false (sym e ∙ ap (same xs) (sym p) ∙ same_refl xs)
 
+-- at some index of the first
 abbrev pub Differ : List ℕ → List ℕ → Type 0
 Differ xs ys = (k : ℕ) × (k < length xs) × (get_or xs k 0 ≡ get_or ys k 0 → ⊥)
 
--- stretches of one length that are not the same have other bytes at an index
+-- stretches of one length that are not the same differ; the edit smaller_byte cites it, so that its right twin is proved
 pub bytes_differ : (xs ys : List ℕ) → same xs ys ≡ false → length xs ≡ length ys → Differ xs ys
 unfolding same
 bytes_differ [] [] f l = absurd (true-not-false (sym f))
